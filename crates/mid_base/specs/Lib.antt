@@ -1,0 +1,5 @@
+pub mod Padded
+pub mod Bytes
+pub mod Address
+pub mod Past
+pub mod Limits

@@ -1,0 +1,80 @@
+ghost use Rattle.std.specs.Prelude.{◌≡◌, ◌<◌, ◌≤◌, length};
+ghost use Rattle.mid_base.specs.Padded.{IsPadded};
+
+/// A command descriptor block of 1 to 16 bytes (SPC-4, 4.3). The bytes past `len` are zero, so equal lists are equal
+/// values. A contract names the list by `cdb_list`.
+#[derive(Clone, Copy, PartialEq, Eq, Debug)]
+pub struct CdbBytes {
+    len: u8,
+    bytes: [u8; 16],
+    pub ghost padded: { IsPadded 16 len bytes },
+}
+
+impl CdbBytes {
+    ghost use Rattle.mid_base.specs.Bytes.{cdb_list};
+
+    /// The block of these bytes.
+    #[tactic(auto, using(crate::specs::Padded::padded_made))]
+    pub fn from_slice(b: &[u8]) -> CdbBytes
+        requires some { 0 < length b.now }
+        requires fits { length b.now ≤ 16 }
+        ensures { cdb_list result ≡ b.now }
+    {
+        let mut bytes = [0u8; 16];
+        bytes[..b.len()].copy_from_slice(b);
+        CdbBytes {
+            len: b.len() as u8,
+            bytes,
+        }
+    }
+
+    /// Its bytes, without the padding.
+    pub fn as_slice(&self) -> &[u8]
+        ensures { result.now ≡ cdb_list self.now }
+    {
+        &self.bytes[..self.len as usize]
+    }
+}
+
+/// Sense data of 0 to 252 bytes (SPC-4, 4.5). The bytes past `len` are zero, so equal lists are equal values. A contract
+/// names the list by `sense_list`.
+#[derive(Clone, Copy, PartialEq, Eq, Debug)]
+pub struct SenseBytes {
+    len: u8,
+    bytes: [u8; 252],
+    pub ghost padded: { IsPadded 252 len bytes },
+}
+
+impl SenseBytes {
+    ghost use Rattle.mid_base.specs.Bytes.{no_sense, sense_list};
+
+    /// No sense at all.
+    pub fn empty() -> SenseBytes
+        ensures { result ≡ no_sense }
+    {
+        SenseBytes {
+            len: 0,
+            bytes: [0; 252],
+        }
+    }
+
+    /// The sense of these bytes.
+    pub fn from_slice(b: &[u8]) -> SenseBytes
+        requires { length b.now ≤ 252 }
+        ensures { sense_list result ≡ b.now }
+    {
+        let mut bytes = [0u8; 252];
+        bytes[..b.len()].copy_from_slice(b);
+        SenseBytes {
+            len: b.len() as u8,
+            bytes,
+        }
+    }
+
+    /// Its bytes, without the padding.
+    pub fn as_slice(&self) -> &[u8]
+        ensures { result.now ≡ sense_list self.now }
+    {
+        &self.bytes[..self.len as usize]
+    }
+}

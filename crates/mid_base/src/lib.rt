@@ -1,0 +1,27 @@
+//! The types that every layer of the SCSI mid level shares: names, commands and answers, the specification of a host,
+//! the entries of its journal and the steps that make them.
+//!
+//! The definitions in `specs/` are the few words on these types that crates below the journal's rules need.
+#![tactic(auto)]
+
+mod answers;
+mod bytes;
+mod entries;
+mod faults;
+mod host_spec;
+mod laws;
+mod names;
+mod rows;
+mod states;
+mod steps;
+
+pub use answers::{Answer, BusyOf, By, Disp, NoMemory, ProbeSay, Scope, TagState};
+pub use bytes::{CdbBytes, SenseBytes};
+pub use entries::Entry;
+pub use faults::{Fault, PlanEntry};
+pub use host_spec::{CmdSpec, Handlers, HostSpec, LunSpec};
+pub use laws::{equal_cdb_lists_are_equal, equal_sense_lists_are_equal};
+pub use names::{Attempt, CmdId, DevAddr, HostByte, HostNo, LaneNo, Tag, Tick};
+pub use rows::Rows;
+pub use states::{DeviceState, HostState};
+pub use steps::{Did, Step, Why};
