@@ -1,6 +1,8 @@
 -- Which step an entry opens, what a step adds, and the first condition that bars a step. Tags, claims and late answers as the core tells them.
-use Rattle.std.specs.Prelude.{ℕ, ◌+◌, ◌-◌, ◌^◌, ◌==◌, Bool, true, false, not, ◌&&◌, ◌||◌, if◌then◌else◌, List, [], ◌∷◌, Option, None, Some, is_none, nat_lt, nat_le}
+use Rattle.std.specs.Prelude.{◌≡◌, ℕ, zero, suc, ◌+◌, ◌-◌, ◌^◌, ◌<◌, ◌==◌, Bool, true, false, not, ◌&&◌, ◌||◌, if◌then◌else◌, List, [], ◌∷◌, ◌++◌, Option, None, Some, is_none, nat_lt, nat_le}
 use Rattle.std.specs.List.{list_any}
+use Rattle.mid_base.specs.declared.names.Attempt.{Attempt}
+use Rattle.mid_base.specs.declared.names.Tag.{Tag}
 use Rattle.mid_base.specs.declared.answers.By.{By}
 use Rattle.mid_base.specs.declared.answers.By.TheVariants.{Answer as ByAnswer, Expiry as ByExpiry}
 use Rattle.mid_base.specs.declared.answers.TagState.{TagState}
@@ -106,3 +108,37 @@ state_by n _ _ _ = TagFree
 
 abbrev pub tag_state : List Entry → ℕ → TagState
 tag_state P t = state_by (sent_with t P) (is_open (sent_with t P) P) (is_settled (sent_with t P) P) (owner (sent_with t P) P)
+
+-- the states of n tags from t on
+abbrev pub tags_from : (t n : ℕ) → List Entry → List TagState
+tags_from t zero P = []
+tags_from t (suc n) P = tag_state P t ∷ tags_from (t + 1) n P
+
+-- the state of each tag of the host, in order
+abbrev pub tag_states : HostSpec → List Entry → List TagState
+tag_states s P = tags_from 0 s.can_queue P
+
+-- the tag that n was sent with
+abbrev pub tag_for : ℕ → List Entry → Tag
+tag_for n [] = record { 0 = 0 }
+tag_for n (Sent c m t ∷ P) = if m.0 == n then t else tag_for n P
+tag_for n (_ ∷ P) = tag_for n P
+
+-- an attempt that waits for its owner, by its answer before its expiry
+abbrev pub claims_of : List Entry → ℕ → List (Tag × Attempt × By)
+claims_of P n =
+    (if is_open n P && is_answered n P then (tag_for n P, record { 0 = n }, ByAnswer) ∷ [] else [])
+    ++ (if is_open n P && is_due n P then (tag_for n P, record { 0 = n }, ByExpiry) ∷ [] else [])
+
+abbrev pub claims_among : List Entry → List ℕ → List (Tag × Attempt × By)
+claims_among P [] = []
+claims_among P (n ∷ ns) = claims_among P ns ++ claims_of P n
+
+-- the attempts that wait for their owner, in ascending numbers
+abbrev pub waiting_claims : List Entry → List (Tag × Attempt × By)
+waiting_claims P = claims_among P (attempts P)
+
+-- the least attempt with an answer that is to be ignored, or none where there is no such answer
+abbrev pub IsNextLate : List Entry → Option Attempt → Type 0
+IsNextLate P None = (n : ℕ) → late n P ≡ 0
+IsNextLate P (Some m) = (0 < late m.0 P) × ((n : ℕ) → n < m.0 → late n P ≡ 0)

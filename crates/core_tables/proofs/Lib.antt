@@ -1,0 +1,5 @@
+pub mod Bools
+pub mod Lists
+pub mod Entries
+pub mod Barred
+pub mod Shown
