@@ -422,3 +422,66 @@ ready_where_none r due step.Tick built none =
   let p = or_parts (is_claimed r.stage) (not (is_empty r.lates.items)) second.0 in
   (first.0, p.0, none_left r.lates.items p.1, third.0, leb-false most r.ticks (unbarred _ Spent [] third.1).0)
 ready_where_none r due t built none = absurd built
+
+-- the groups that the steps add
+all_zero : (P : List Entry) (ns : List ℕ) → ((n : ℕ) → late n P ≡ 0) → list_all (λ n. late n P == 0) ns ≡ true
+all_zero P [] h = refl
+all_zero P (n ∷ ns) h = rw (h n) (all_zero P ns h)
+
+pub group_took : (s : HostSpec) (P : List Entry) (r : Running) → Runs s P r → r.stage ≡ New → Group s P (entry.Took r.command.id ∷ [])
+group_took s P r run new =
+  takes s P r.command r.sent r.ticks r.paused r.lates.items (subst (λ (x : Stage). Says s P r.command x r.sent r.ticks r.paused r.lates.items) new run)
+
+pub group_sent : (s : HostSpec) (P : List Entry) (r : Running) (o : Sending) → Runs s P r → r.stage ≡ Waits → r.paused ≡ false → o.attempt.0 ≡ r.sent + 1 → o.tag.0 ≡ 0
+  → Group s P (entry.Sent r.command.id o.attempt o.tag ∷ [])
+group_sent s P r o run waits unpaused number tag =
+  sends_next s P r.command r.sent r.ticks r.paused r.lates.items o (subst (λ (x : Stage). Says s P r.command x r.sent r.ticks r.paused r.lates.items) waits run) unpaused number tag
+
+pub group_owned : (s : HostSpec) (P : List Entry) (r : Running) (n : Attempt) (o : Sending) (a : Answer) → Runs s P r → r.stage ≡ Answered o a → o.attempt.0 ≡ n.0
+  → Group s P (entry.Owned n ByAnswer ∷ [])
+group_owned s P r n o a run stage number =
+  owns s P r.command r.sent r.ticks r.paused r.lates.items o a n number (subst (λ (x : Stage). Says s P r.command x r.sent r.ticks r.paused r.lates.items) stage run)
+
+pub answer_owned : (s : HostSpec) (P : List Entry) (r : Running) (n : Attempt) (o : Sending) (a : Answer) → Runs s P r → r.stage ≡ Owned o a → o.attempt.0 ≡ n.0 → answer n.0 P ≡ Some a
+answer_owned s P r n o a run stage number =
+  let owned : Says s P r.command (Owned o a) r.sent r.ticks r.paused r.lates.items = subst (λ (x : Stage). Says s P r.command x r.sent r.ticks r.paused r.lates.items) stage run in
+  subst (λ (j : ℕ). answer j P ≡ Some a) number owned.current.1
+
+pub group_judged : (s : HostSpec) (P : List Entry) (r : Running) (n : Attempt) (o : Sending) (a : Answer) → Runs s P r → r.stage ≡ Owned o a → o.attempt.0 ≡ n.0 → is_good a ≡ true
+  → Group s P (entry.Judged r.command.id n Success ∷ entry.Told r.command.id a ∷ [])
+group_judged s P r n o a run stage number good =
+  judges s P r.command r.sent r.ticks r.paused r.lates.items o a n number good (subst (λ (x : Stage). Says s P r.command x r.sent r.ticks r.paused r.lates.items) stage run)
+
+module _ (s : HostSpec) (P : List Entry) (k : CmdSpec) (sent now : ℕ) (paused : Bool) (lates : List ℕ) where
+  none_waiting : (x : Stage) → is_claimed x ≡ false → Says s P k x sent now paused lates → list_any (is_waiting P) (attempts P) ≡ false
+  none_waiting x none run =
+    any_none (is_waiting P) (attempts P) (λ n. unclaimed (is_open n P) (is_answered n P) (is_due n P) (run.claimed n ∙ rw none refl) (run.calm.3 n))
+    where
+      unclaimed : (o t d : Bool) → o && t ≡ false → d ≡ false → o && (t || d) ≡ false
+      unclaimed false t d h e = refl
+      unclaimed true false d h e = e
+      unclaimed true true d h e = h
+
+  not_expired : (x : Stage) → is_expired_in x now ≡ false → Says s P k x sent now paused lates → (n : ℕ) → is_expired s P n ≡ false
+  not_expired New none run n = rw (run.opened n) refl
+  not_expired Waits none run n = rw (run.opened n) refl
+  not_expired (Out o) none run n =
+    (or_parts _ _ (expired_parts s P k sent now paused lates (Out o) o run.current run run.opened n ∙ rw none refl)).0
+  not_expired (Answered o a) none run n =
+    (or_parts _ _ (expired_parts s P k sent now paused lates (Answered o a) o run.current.0 run run.opened n ∙ rw none refl)).0
+  not_expired (Owned o a) none run n = rw (run.opened n) refl
+  not_expired Ended none run n = rw (run.opened n) refl
+
+  ticks_on : (x : Stage) → is_claimed x ≡ false → lates ≡ [] → is_expired_in x now ≡ false → Says s P k x sent now paused lates → Group s P (entry.Tick ∷ [])
+  ticks_on x unclaimed empty unexpired run =
+    let a = none_waiting x unclaimed run in
+    let b = all_zero P (answered P) (λ n. run.late_are n ∙ ap (times n) empty) in
+    let c = any_none (is_expired s P) (attempts P) (not_expired x unexpired run) in
+    (three _ _ _ a b c, tt)
+    where
+      three : (p q r : Bool) → p ≡ false → q ≡ true → r ≡ false → not p && q && not r ≡ true
+      three p q r h e f = rw (h, e, f) refl
+
+pub group_tick : (s : HostSpec) (P : List Entry) (r : Running) → Runs s P r → is_claimed r.stage ≡ false → r.lates.items ≡ [] → is_expired_in r.stage r.ticks ≡ false
+  → Group s P (entry.Tick ∷ [])
+group_tick s P r run a b c = ticks_on s P r.command r.sent r.ticks r.paused r.lates.items r.stage a b c run

@@ -61,7 +61,7 @@ module _ (s : HostSpec) (P : List Entry) (k : CmdSpec) (sent now : ℕ) (paused 
     sends_are = ap (λ n. n + 1) run.sends_are;
     numbers = rw (countdown_more sent, number, run.numbers) refl;
     fresh = λ n lt. let ne : (o.attempt.0 == n) ≡ false = ne_eqb o.attempt.0 n (λ e. absurd (omega (arith, e, number, lt))) in
-      let before : sent < n = omega (arith, lt) in rw ne (run.fresh n before);
+      let before : sent < n = omega (arith, lt) in (rw ne (run.fresh n before).0, (run.fresh n before).1);
     order = run.order;
     stands = λ c. stands_new (k.id.0 == c) (standings.Busy o.attempt o.tag) (standing c P) standings.New standings.Waits (run.stands c);
     handed = run.handed; told = run.told;
@@ -154,7 +154,7 @@ module _ (s : HostSpec) (P : List Entry) (k : CmdSpec) (sent now : ℕ) (paused 
   pub says_owned : (o : Sending) (a : Answer) (m : Attempt) → o.attempt.0 ≡ m.0 → Says s P k (Answered o a) sent now paused lates
     → Says s (entry.Owned m ByAnswer ∷ P) k (Owned o a) sent now paused lates
   says_owned o a m e run = record {
-    single = run.single; time = run.time; early = run.early; few = run.few; sends_are = run.sends_are; numbers = run.numbers; fresh = run.fresh;
+    single = run.single; time = run.time; early = run.early; few = run.few; sends_are = run.sends_are; numbers = run.numbers; fresh = λ n lt. let ne : (m.0 == n) ≡ false = ne_eqb m.0 n (λ q. absurd (omega (arith, q, e, lt, run.current.0.0))) in ((run.fresh n lt).0, rw ne (run.fresh n lt).1);
     order = run.order; stands = run.stands; handed = run.handed; told = run.told;
     opened = λ n. rw (← e) (closes (o.attempt.0 == n) (is_open n P) (run.opened n));
     claimed = λ n. rw (← e) (closes_both (o.attempt.0 == n) (is_open n P) (is_answered n P) (run.opened n));

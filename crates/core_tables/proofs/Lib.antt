@@ -3,3 +3,4 @@ pub mod Lists
 pub mod Entries
 pub mod Barred
 pub mod Shown
+pub mod Tags

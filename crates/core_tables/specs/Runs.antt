@@ -1,5 +1,5 @@
 -- The running state says what the entries P, the newest first, say.
-use Rattle.std.specs.Prelude.{◌≡◌, ℕ, zero, suc, ◌+◌, ◌-◌, ◌^◌, ◌<◌, ◌==◌, ◌&&◌, ◌||◌, not, Bool, true, false, List, [], ◌∷◌, Some, if◌then◌else◌, is_none, nat_lt}
+use Rattle.std.specs.Prelude.{◌≡◌, ℕ, zero, suc, ◌+◌, ◌-◌, ◌^◌, ◌<◌, ◌==◌, ◌&&◌, ◌||◌, not, Bool, true, false, List, [], ◌∷◌, None, Some, if◌then◌else◌, is_none, nat_lt}
 use Rattle.mid_base.specs.declared.names.DevAddr.{DevAddr}
 use Rattle.mid_base.specs.declared.answers.By.TheVariants.{Answer as ByAnswer}
 use Rattle.mid_base.specs.declared.states.DeviceState.TheVariants.{Running as RunningState}
@@ -65,7 +65,7 @@ pub record Says (s : HostSpec) (P : List Entry) (k : CmdSpec) (x : Stage) (sent 
   pub few : sent < 2 ^ 60
   pub sends_are : sends P ≡ sent
   pub numbers : attempts P ≡ countdown sent
-  pub fresh : (n : ℕ) → sent < n → was_sent n P ≡ false
+  pub fresh : (n : ℕ) → sent < n → (was_sent n P ≡ false) × (owner n P ≡ None)
   pub order : taken P ≡ taken_of k x
   pub stands : (c : ℕ) → standing c P ≡ (if k.id.0 == c then standing_of x else standings.New)
   pub handed : was_taken k.id.0 P ≡ is_taken x

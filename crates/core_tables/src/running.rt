@@ -52,7 +52,7 @@ fn least(numbers: &[u64]) -> Option<u64>
 }
 
 impl Running {
-    ghost use Rattle.core_tables.specs.Stage.{claims_of, number_in, is_wanting, is_claimed, is_ended};
+    ghost use Rattle.core_tables.specs.Stage.{claims_of, tag_of, number_in, is_wanting, is_claimed, is_ended};
     ghost use Rattle.core_tables.specs.Runs.{Runs, IsSingle};
     ghost use Rattle.core_tables.specs.Shows.{Shows, Rests};
     ghost use Rattle.core_tables.specs.Ready.{IsBuilt, IsReadyFor, is_expired_in, bars, bars_submit, bars_send, bars_own, bars_settle, bars_tick};
@@ -266,6 +266,7 @@ impl Running {
         requires { self.old.stage ≡ Stage.New }
         ensures runs { (s : SpecSeen) (P : List EntrySeen) → Runs s P self.old → Runs s (entries.Took self.old.command.id ∷ P) self.new }
         ensures shows { (q : ℕ) → Shows q self.old → Shows q self.new }
+        ensures stage { self.new.stage ≡ Stage.Waits }
     {
         self.enter(Stage::Waits);
     }
@@ -292,6 +293,7 @@ impl Running {
         ensures runs { (s : SpecSeen) (P : List EntrySeen) → Runs s P self.old → Runs s (entries.Sent self.old.command.id o.attempt o.tag ∷ P) self.new }
         ensures shows { (q : ℕ) → Shows q self.old → Shows q self.new }
         ensures stage { self.new.stage ≡ Stage.Out o }
+        ensures command { self.new.command ≡ self.old.command }
     {
         self.sent += 1;
         self.enter(Stage::Out(o));
@@ -302,6 +304,7 @@ impl Running {
         requires { self.old.stage ≡ Stage.Out o }
         ensures runs { (s : SpecSeen) (P : List EntrySeen) (why : BusyOfSeen) → Runs s P self.old → Runs s (entries.Bounced self.old.command.id o.attempt why ∷ P) self.new }
         ensures shows { (q : ℕ) → Shows q self.old → Shows q self.new }
+        ensures stage { self.new.stage ≡ Stage.Waits }
     {
         self.paused = true;
         self.enter(Stage::Waits);
@@ -321,6 +324,7 @@ impl Running {
         requires { vec_len self.old.lates < vec_capacity self.old.lates }
         ensures runs { (s : SpecSeen) (P : List EntrySeen) → Runs s P self.old → Runs s (entries.Ready n a ∷ P) self.new }
         ensures shows { (q : ℕ) → Shows q self.old → Shows q self.new }
+        ensures tag { tag_of self.new.stage ≡ tag_of self.old.stage }
     {
         match self.wanted(n) {
             Some(o) => self.enter(Stage::Answered(o, a)),
@@ -343,6 +347,7 @@ impl Running {
         requires { IsReadyFor self.old false (Step.Own n By.Answer) }
         ensures runs { (s : SpecSeen) (P : List EntrySeen) → Runs s P self.old → Runs s (entries.Owned n ByAnswer ∷ P) self.new }
         ensures shows { (q : ℕ) → Shows q self.old → Shows q self.new }
+        ensures stage { (o : _) × (a : _) × (self.old.stage ≡ Stage.Answered o a) × (o.attempt.0 ≡ n.0) × (self.new.stage ≡ Stage.Owned o a) }
     {
         if let Stage::Answered(o, a) = self.stage {
             self.enter(Stage::Owned(o, a));
@@ -365,6 +370,7 @@ impl Running {
         requires { (o : _) × (self.old.stage ≡ Stage.Owned o a) × (o.attempt.0 ≡ n.0) }
         ensures runs { (s : SpecSeen) (P : List EntrySeen) → Runs s P self.old → Runs s (entries.Told self.old.command.id a ∷ entries.Judged self.old.command.id n Success ∷ P) self.new }
         ensures shows { (q : ℕ) → Shows q self.old → Shows q self.new }
+        ensures stage { self.new.stage ≡ Stage.Ended }
     {
         self.enter(Stage::Ended);
     }
@@ -374,6 +380,7 @@ impl Running {
         requires { self.old.ticks < 2 ^ 60 - 1 }
         ensures runs { (s : SpecSeen) (P : List EntrySeen) → Runs s P self.old → Runs s (entries.Tick ∷ P) self.new }
         ensures shows { (q : ℕ) → Shows q self.old → Shows q self.new }
+        ensures stage { self.new.stage ≡ self.old.stage }
     {
         self.ticks += 1;
         self.paused = false;

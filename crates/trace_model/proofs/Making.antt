@@ -42,7 +42,7 @@ onto-reverse : (g P : List Entry) → onto g P ≡ reverse g ++ P
 onto-reverse [] P = refl
 onto-reverse (e ∷ g) P = onto-reverse g (e ∷ P) ∙ (sym (append_assoc (reverse g) (e ∷ []) P) ∙ ap (λ r. r ++ P) (sym (reverse-append (e ∷ []) g)))
 
-goes_on_back : (s : HostSpec) (P g : List Entry) → ByGroups s P → Group s P g → ByGroups s (onto g P)
+pub goes_on_back : (s : HostSpec) (P g : List Entry) → ByGroups s P → Group s P g → ByGroups s (onto g P)
 goes_on_back s P g legal may = record {
   groups = g ∷ legal.groups;
   entries = ap (onto g) legal.entries;
