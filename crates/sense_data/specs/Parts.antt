@@ -27,3 +27,7 @@ pub record IsWalk (b : List ℕ) (end p : ℕ) : Type 0 where
   pub within : end ≤ length b
   pub begun : p ≤ end
   pub whole : first_cut b end p ≡ None
+
+-- what stands in the parts
+abbrev pub bodies : List (ℕ × Bor (List ℕ)) → List (ℕ × List ℕ)
+bodies = map (λ d. (d.0, d.1.now))

@@ -5,8 +5,10 @@
 //! sense data and what their fields are.
 #![tactic(auto)]
 
+mod descriptors;
 mod faults;
 mod view;
 
+pub use descriptors::Descriptors;
 pub use faults::SenseFault;
 pub use view::SenseView;
