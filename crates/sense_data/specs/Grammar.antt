@@ -6,7 +6,7 @@
 -- Descriptor form (4.5.2), response codes 72h and 73h:
 --     byte 0 the response code, byte 1 the sense key (bits 3 to 0), byte 2 ASC, byte 3 ASCQ, byte 7 the additional
 --     length, from byte 8 on the descriptors: a type, a length, and as many bytes as it says
-use Rattle.std.specs.Prelude.{ℕ, zero, suc, ◌+◌, ◌-◌, ◌%◌, min, List, [], ◌∷◌, ◌++◌, length, map, drop, Option, Some, None, is_none, Bool, ◌&&◌, ◌||◌, nat_lt, nat_le, ◌==◌, if◌then◌else◌, slice_index, slice_range, find}
+use Rattle.std.specs.Prelude.{◌≡◌, ℕ, zero, suc, ◌+◌, ◌-◌, ◌%◌, min, List, [], ◌∷◌, ◌++◌, length, map, drop, Option, Some, None, is_none, Bool, true, ◌&&◌, ◌||◌, nat_lt, nat_le, ◌==◌, if◌then◌else◌, slice_index, slice_range, find}
 use Rattle.byteorder.specs.Endian.{big_number, big_bytes}
 use Rattle.sense_data.specs.declared.faults.SenseFault.{SenseFault}
 use Rattle.sense_data.specs.declared.faults.SenseFault.TheVariants.{Empty, Code, Short, DescriptorCut}
@@ -108,12 +108,21 @@ abbrev pub fixed_sense : ℕ → ℕ → ℕ → Option ℕ → Bool → List �
 fixed_sense key asc ascq None deferred = fixed_bytes (if deferred then 113 else 112) key 0 asc ascq
 fixed_sense key asc ascq (Some n) deferred = fixed_bytes (if deferred then 241 else 240) key n asc ascq
 
-abbrev pub information_descriptor : Option ℕ → List ℕ
-information_descriptor None = []
-information_descriptor (Some n) = (0 ∷ 10 ∷ 128 ∷ 0 ∷ []) ++ big_bytes 8 n
+abbrev pub descriptor_header : ℕ → ℕ → ℕ → ℕ → Bool → List ℕ
+descriptor_header additional key asc ascq deferred =
+    (if deferred then 115 else 114) ∷ key ∷ asc ∷ ascq ∷ 0 ∷ 0 ∷ 0 ∷ additional ∷ []
 
 -- sense data of the descriptor form, with an information descriptor where there is INFORMATION
 abbrev pub descriptor_sense : ℕ → ℕ → ℕ → Option ℕ → Bool → List ℕ
-descriptor_sense key asc ascq information deferred =
-    ((if deferred then 115 else 114) ∷ key ∷ asc ∷ ascq ∷ 0 ∷ 0 ∷ 0 ∷ length (information_descriptor information) ∷ [])
-    ++ information_descriptor information
+descriptor_sense key asc ascq None deferred = descriptor_header 0 key asc ascq deferred
+descriptor_sense key asc ascq (Some n) deferred =
+    (descriptor_header 12 key asc ascq deferred ++ 0 ∷ 10 ∷ 128 ∷ 0 ∷ []) ++ big_bytes 8 n
+
+-- valid sense data with these fields
+pub record HasFields (b : List ℕ) (key asc ascq : ℕ) (info : Option ℕ) (deferred : Bool) : Type 0 where
+  pub valid : is_valid_sense b ≡ true
+  pub key_is : sense_key b ≡ key
+  pub asc_is : sense_asc b ≡ asc
+  pub ascq_is : sense_ascq b ≡ ascq
+  pub information_is : information b ≡ info
+  pub deferred_is : is_deferred b ≡ deferred

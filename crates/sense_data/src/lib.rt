@@ -5,10 +5,14 @@
 //! sense data and what their fields are.
 #![tactic(auto)]
 
+mod builders;
 mod descriptors;
 mod faults;
+mod laws;
 mod view;
 
+pub use builders::{build_descriptor, build_fixed};
 pub use descriptors::Descriptors;
 pub use faults::SenseFault;
+pub use laws::{descriptor_sense_reads_back, fixed_sense_reads_back};
 pub use view::SenseView;
