@@ -1,11 +1,12 @@
 -- The walk over descriptors, step by step: how many steps are allowed doesn't matter.
-use Rattle.std.proofs.Common.{◌≡◌, ℕ, zero, suc, ◌+◌, ◌-◌, ◌<◌, ◌≤◌, List, [], ◌∷◌, Option, Some, None, true, false, cond, refl, sym, ap, ◌∙◌, arith, inl, inr}
-use Rattle.std.specs.Prelude.{nat_lt, nat_le, map, slice_index, slice_range}
+use Rattle.std.proofs.Common.{◌≡◌, ℕ, zero, suc, ◌+◌, ◌-◌, ◌<◌, ◌≤◌, List, [], ◌∷◌, length, length-take, length-drop, Option, Some, None, true, false, cond, refl, sym, ap, ◌∙◌, arith, inl, inr}
+use Rattle.std.specs.Prelude.{nat_lt, nat_le, map, is_none, slice_index, slice_range}
 use Rattle.std.proofs.lemmas.Bool.{cases_lt}
 use Rattle.std.proofs.lemmas.Bool.Decides.{nat_tests}
 use denote.Bor.{Bor}
-use Rattle.sense_data.specs.Grammar.{is_fixed, sense_end, descriptors, descriptor_end, starts_within, starts_from, first_cut, cut_fault, refusal}
-use Rattle.sense_data.specs.Parts.{part, parts_from, descriptor_parts, bodies}
+use Rattle.sense_data.specs.Grammar.{is_fixed, sense_end, descriptors, descriptor_end, starts_within, starts_from, first_cut, cut_fault, refusal, is_valid_sense}
+use Rattle.sense_data.specs.declared.faults.SenseFault.{SenseFault}
+use Rattle.sense_data.specs.Parts.{part, parts_from, descriptor_parts, bodies, Fill}
 
 -- any number of steps that is enough gives the same
 starts_enough : (n m : ℕ) (b : List ℕ) (end p : ℕ) → end - p ≤ n → end - p ≤ m → starts_within n b end p ≡ starts_within m b end p
@@ -68,6 +69,32 @@ bodies_at b (p ∷ starts) = ap (λ rest. (slice_index b.now p, slice_range b.no
 -- what stands in the parts are the descriptors
 pub bodies-parts : (b : Bor (List ℕ)) → bodies (descriptor_parts b) ≡ descriptors b.now
 bodies-parts b = elim (is_fixed b.now) as (λ f. bodies (cond f [] (parts_from b (sense_end b.now) 8)) ≡ cond f [] (map (λ p. (slice_index b.now p, slice_range b.now (p + 2) (descriptor_end b.now p))) (starts_from b.now (sense_end b.now) 8))) [
-    | true ↦ refl
-    | false ↦ bodies_at b (starts_from b.now (sense_end b.now) 8)
-  ]
+  | true ↦ refl
+  | false ↦ bodies_at b (starts_from b.now (sense_end b.now) 8)
+]
+
+-- whole descriptors fill their bytes
+fill_within : (n : ℕ) (b : Bor (List ℕ)) (end p : ℕ) → end - p ≤ n → p ≤ end → end ≤ length b.now → first_cut b.now end p ≡ None → Fill b end p (parts_from b end p)
+fill_within zero b end p few le within whole = rw (parts_end b end p (omega arith)) (omega arith)
+fill_within (suc n) b end p few le within whole =
+    elim (cases_lt p end) [
+      | inl lt ↦
+          let w = whole_step b.now end p lt whole in
+          let size : length (slice_range b.now (p + 2) (descriptor_end b.now p)) ≡ slice_index b.now (p + 1) = simp (length-take, length-drop) (omega (arith, w.body)) in
+          rw (parts_step b end p lt) (refl, refl, size, fill_within n b end (descriptor_end b.now p) (omega arith) w.body within w.rest)
+      | inr done ↦ rw (parts_end b end p done) (omega arith)
+    ]
+
+pub valid_length : (b : List ℕ) → refusal b ≡ None → 8 ≤ length b
+valid_length [] e = absurd cc
+valid_length (c ∷ rest) e = grind (arith, nat_tests)
+
+none_if : (o : Option SenseFault) → is_none o ≡ true → o ≡ None
+none_if None e = refl
+none_if (Some f) e = absurd cc
+
+pub parts_fill : (b : Bor (List ℕ)) → is_valid_sense b.now ≡ true → is_fixed b.now ≡ false → Fill b (sense_end b.now) 8 (descriptor_parts b)
+parts_fill b valid other =
+    let e = none_if (refusal b.now) valid in
+    let enough = valid_length b.now e in
+    rw other (fill_within (sense_end b.now) b (sense_end b.now) 8 (omega arith) (omega arith) (omega arith) (valid_walk b.now e other))

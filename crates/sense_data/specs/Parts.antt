@@ -1,5 +1,5 @@
 -- Parts of the caller's slice: which places they are, and where they lie.
-use Rattle.std.specs.Prelude.{◌≡◌, ℕ, ◌+◌, ◌≤◌, List, [], map, length, Option, None, if◌then◌else◌, slice_index, slice_range}
+use Rattle.std.specs.Prelude.{◌≡◌, ℕ, ◌+◌, ◌≤◌, List, [], ◌∷◌, map, length, Option, None, if◌then◌else◌, slice_index, slice_range}
 use denote.Bor.{Bor}
 use Rattle.sense_data.specs.Grammar.{refusal, is_fixed, sense_end, descriptor_end, starts_from, first_cut}
 
@@ -31,3 +31,10 @@ pub record IsWalk (b : List ℕ) (end p : ℕ) : Type 0 where
 -- what stands in the parts
 abbrev pub bodies : List (ℕ × Bor (List ℕ)) → List (ℕ × List ℕ)
 bodies = map (λ d. (d.0, d.1.now))
+
+-- these descriptors fill b from place p up to `end`, each right after the one before it
+abbrev pub Fill : Bor (List ℕ) → ℕ → ℕ → List (ℕ × Bor (List ℕ)) → Type 0
+Fill b end p [] = p ≡ end
+Fill b end p (d ∷ ds) =
+    (d.0 ≡ slice_index b.now p) × (d.1 ≡ part b (p + 2) (descriptor_end b.now p))
+    × (length d.1.now ≡ slice_index b.now (p + 1)) × Fill b end (descriptor_end b.now p) ds

@@ -2,6 +2,7 @@ ghost use Rattle.std.specs.Prelude.{◌≡◌, ◌<◌};
 ghost use Rattle.mid_base.specs.Bytes.{sense_list};
 ghost use Rattle.sense_data.specs.Grammar.{HasFields, fixed_sense, descriptor_sense};
 
+use crate::codes::{DESCRIPTOR_CURRENT, DESCRIPTOR_DEFERRED, FIXED_CURRENT, FIXED_DEFERRED, VALID};
 use byteorder::{BigEndian, ByteOrder};
 use mid_base::SenseBytes;
 
@@ -20,10 +21,31 @@ pub fn build_fixed(
     ensures bytes { sense_list result ≡ fixed_sense key asc ascq information deferred }
     ensures fields { HasFields (sense_list result) key asc ascq information deferred }
 {
-    let code = if deferred { 0x71 } else { 0x70 };
-    let valid = if information.is_some() { 0x80 } else { 0 };
+    let code = if deferred {
+        FIXED_DEFERRED
+    } else {
+        FIXED_CURRENT
+    };
+    let valid = if information.is_some() { VALID } else { 0 };
     let mut bytes = [
-        valid + code, 0, key, 0, 0, 0, 0, 0x0a, 0, 0, 0, 0, asc, ascq, 0, 0, 0, 0,
+        valid + code,
+        0,
+        key,
+        0,
+        0,
+        0,
+        0,
+        0x0a,
+        0,
+        0,
+        0,
+        0,
+        asc,
+        ascq,
+        0,
+        0,
+        0,
+        0,
     ];
     BigEndian::write_u32(&mut bytes[3..], information.unwrap_or(0));
     SenseBytes::from_slice(&bytes)
@@ -45,12 +67,16 @@ pub fn build_descriptor(
     ensures bytes { sense_list result ≡ descriptor_sense key asc ascq information deferred }
     ensures fields { HasFields (sense_list result) key asc ascq information deferred }
 {
-    let code = if deferred { 0x73 } else { 0x72 };
+    let code = if deferred {
+        DESCRIPTOR_DEFERRED
+    } else {
+        DESCRIPTOR_CURRENT
+    };
     let Some(information) = information else {
         return SenseBytes::from_slice(&[code, key, asc, ascq, 0, 0, 0, 0]);
     };
     let mut bytes = [
-        code, key, asc, ascq, 0, 0, 0, 12, 0, 10, 0x80, 0, 0, 0, 0, 0, 0, 0, 0, 0,
+        code, key, asc, ascq, 0, 0, 0, 12, 0, 0x0a, VALID, 0, 0, 0, 0, 0, 0, 0, 0, 0,
     ];
     BigEndian::write_u64(&mut bytes[12..], information);
     SenseBytes::from_slice(&bytes)

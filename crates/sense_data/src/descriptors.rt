@@ -1,8 +1,30 @@
 ghost use Rattle.std.specs.Prelude.{◌≡◌, ◌≤◌, length};
 ghost use Rattle.std.specs.Iterator.{YieldsFirst, item_count};
+ghost use Rattle.sense_data.specs.Grammar.{first_cut};
 ghost use Rattle.sense_data.specs.Parts.{part, parts_from, IsWalk};
 
 use std::marker::Model;
+
+// The first descriptor from byte 8 on that isn't whole by `end`.
+#[tactic(auto, using(crate::proofs::Walk::cut_step, crate::proofs::Walk::cut_end))]
+pub(crate) fn first_cut(b: &[u8], end: usize) -> Option<usize>
+    requires begins { 8 ≤ end }
+    requires within { end ≤ length b.now }
+    ensures { result ≡ first_cut b.now end 8 }
+{
+    let mut place = 8;
+    while place < end {
+        if end - place < 2 {
+            return Some(place);
+        }
+        let next = place + 2 + b[place + 1] as usize;
+        if next > end {
+            return Some(place);
+        }
+        place = next;
+    }
+    None
+}
 
 // A part of the caller's bytes.
 fn part_of(b: &[u8], from: usize, to: usize) -> &[u8]
@@ -15,7 +37,7 @@ fn part_of(b: &[u8], from: usize, to: usize) -> &[u8]
 
 /// The descriptors that are left of sense data, each as its type and its body, which is a part of the bytes that were
 /// read (SPC-4, 4.5.2.1). A contract sees the list of them.
-#[derive(Drop)]
+#[derive(Debug, Drop)]
 pub struct Descriptors<'a> {
     bytes: &'a [u8],
     end: usize,

@@ -6,6 +6,7 @@
 #![tactic(auto)]
 
 mod builders;
+mod codes;
 mod descriptors;
 mod faults;
 mod laws;
@@ -14,5 +15,5 @@ mod view;
 pub use builders::{build_descriptor, build_fixed};
 pub use descriptors::Descriptors;
 pub use faults::SenseFault;
-pub use laws::{descriptor_sense_reads_back, fixed_sense_reads_back};
+pub use laws::{descriptor_sense_reads_back, descriptors_fill_the_sense, fixed_sense_reads_back};
 pub use view::SenseView;

@@ -1,7 +1,7 @@
 use Rattle.std.proofs.Common.{arith}
 use Rattle.std.proofs.lemmas.Bool.Decides.{nat_tests}
 use Rattle.sense_data.proofs.Walk.{cut_step}
-use Rattle.sense_data.proofs.view.first_cut.Goals as goal
+use Rattle.sense_data.proofs.descriptors.first_cut.Goals as goal
 
 pub loop-place-preserved : goal.loop-place-preserved
 loop-place-preserved c =
