@@ -21,31 +21,18 @@ pub fn build_fixed(
     ensures bytes { sense_list result ≡ fixed_sense key asc ascq information deferred }
     ensures fields { HasFields (sense_list result) key asc ascq information deferred }
 {
-    let code = if deferred {
+    let form = if deferred {
         FIXED_DEFERRED
     } else {
         FIXED_CURRENT
     };
-    let valid = if information.is_some() { VALID } else { 0 };
+    let code = if information.is_some() {
+        VALID + form
+    } else {
+        form
+    };
     let mut bytes = [
-        valid + code,
-        0,
-        key,
-        0,
-        0,
-        0,
-        0,
-        0x0a,
-        0,
-        0,
-        0,
-        0,
-        asc,
-        ascq,
-        0,
-        0,
-        0,
-        0,
+        code, 0, key, 0, 0, 0, 0, 0x0a, 0, 0, 0, 0, asc, ascq, 0, 0, 0, 0,
     ];
     BigEndian::write_u32(&mut bytes[3..], information.unwrap_or(0));
     SenseBytes::from_slice(&bytes)

@@ -10,6 +10,8 @@ mod codes;
 mod descriptors;
 mod faults;
 mod laws;
+#[cfg(test)]
+mod tests;
 mod view;
 
 pub use builders::{build_descriptor, build_fixed};
