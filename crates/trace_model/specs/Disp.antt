@@ -2,7 +2,7 @@
 -- scmd w/ scsi_done"). The table is this project's own, in outline after Linux.
 use Rattle.std.specs.Prelude.{ℕ, ◌==◌, Bool, true, false, not, ◌&&◌, ◌||◌, List, [], ◌∷◌, if◌then◌else◌, length, nat_le, nat_lt, slice_index, bit_and}
 use Rattle.mid_base.specs.Bytes.{sense_list}
-use Rattle.trace_model.specs.Sense.{is_valid_sense, sense_key, sense_asc, sense_ascq, is_deferred}
+use Rattle.sense_data.specs.Grammar.{is_valid_sense, sense_key, sense_asc, sense_ascq, is_deferred}
 use Rattle.mid_base.specs.declared.answers.Answer.{Answer}
 use Rattle.mid_base.specs.declared.answers.Disp.{Disp}
 use Rattle.mid_base.specs.declared.answers.Disp.TheVariants.{Success, Retry, Requeue, Fail}

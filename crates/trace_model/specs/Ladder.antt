@@ -10,7 +10,7 @@ use Rattle.mid_base.specs.declared.answers.Scope.{Scope}
 use Rattle.mid_base.specs.declared.answers.Scope.TheVariants.{Cmd, Dev, Target, Bus, Host}
 use Rattle.mid_base.specs.declared.host_spec.Handlers.{Handlers}
 use Rattle.mid_base.specs.Address.{same_dev}
-use Rattle.trace_model.specs.Sense.{is_valid_sense}
+use Rattle.sense_data.specs.Grammar.{is_valid_sense}
 use Rattle.trace_model.specs.Names.{address, has_callback}
 use Rattle.trace_model.specs.Disp.{check_sense, is_fail}
 

@@ -1,5 +1,5 @@
+pub use Rattle.sense_data.specs.Grammar
 pub mod Names
-pub mod Sense
 pub mod Disp
 pub mod Attempts
 pub mod Commands
