@@ -2,5 +2,10 @@
 #![tactic(auto)]
 
 mod entries;
+mod gather;
+mod lines;
 mod pieces;
+mod results;
 mod words;
+
+pub use lines::WriteEnd;
