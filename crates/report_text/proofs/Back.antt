@@ -7,4 +7,4 @@ pub back : {A : Type 0} (es : List A) (i : ℕ) (e : A) → i < length es → e 
 back es i e lt is =
     ap reverse (take_more es i e lt)
     ∙ (reverse-append (take i es) (get_or es i e ∷ [])
-       ∙ ap (λ x. x ∷ reverse (take i es)) (sym is))
+    ∙ ap (λ x. x ∷ reverse (take i es)) (sym is))

@@ -5,11 +5,11 @@ use Rattle.std.specs.BTreeMap.{BTreeMap, get}
 use Rattle.mid_base.specs.Past.{attempt_of}
 use Rattle.mid_base.specs.declared.answers.By.{By}
 use Rattle.mid_base.specs.declared.entries.Entry.{Entry}
-use Rattle.mid_base.specs.declared.entries.Entry.TheVariants.{Sent, Judged, Aborted, Cleared, Again}
+use Rattle.mid_base.specs.declared.entries.Entry.TheVariants.{Sent, Judged, Aborted, Cleared, Again, Tick}
 use Rattle.trace_model.specs.Attempts.{owner, is_by_answer}
 use Rattle.trace_model.specs.Commands.{retries}
 use Rattle.trace_model.specs.Flush.{last_own}
-use Rattle.report_text.specs.Results.{report}
+use Rattle.report_text.specs.Results.{report, result_text}
 use Rattle.report_text.specs.declared.results.Ended.{Ended}
 use Rattle.report_text.specs.declared.results.Ended.TheVariants.{Answered, TimedOut, NotConnected}
 use Rattle.report_text.specs.declared.results.Report.{Report}
@@ -61,3 +61,12 @@ ReportsAre reports P = (c : ℕ) → get nat_cmp reports c ≡ report c P
 
 abbrev pub SaysOf : Results → List Entry → Type 0
 SaysOf r P = RowsAre r.rows P × ReportsAre r.reports P
+
+-- the result line that the tables give
+abbrev pub gathered_line : Results → ℕ → List ℕ
+gathered_line r c = result_text c (get nat_cmp r.reports c) (row_at r.rows c).retries
+
+-- the tick of what follows the entry
+abbrev pub tick_after : ℕ → Entry → ℕ
+tick_after tick Tick = tick + 1
+tick_after tick e = tick

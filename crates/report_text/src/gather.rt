@@ -1,7 +1,8 @@
 ghost use Rattle.std.specs.Prelude.{◌≡◌, ◌+◌, ◌<◌, ◌^◌, ℕ, List, ◌∷◌, reverse, IfOk, OnOk, OnErr};
 ghost use Rattle.mid_base.specs.declared.entries.Entry.{Entry as EntrySeen};
-ghost use Rattle.trace_model.specs.Commands.{is_own, retries};
-ghost use Rattle.report_text.specs.Results.{report};
+ghost use Rattle.std.specs.Ordering.{nat_cmp};
+ghost use Rattle.std.specs.BTreeMap.{get};
+ghost use Rattle.trace_model.specs.Commands.{is_own};
 ghost use Rattle.report_text.specs.Tables.{OwnersAre, ReportsAre, RowsAre, ended_at, is_named, next_row, row_at, row_of};
 
 use crate::results::{Ended, Report};
@@ -53,14 +54,14 @@ impl Results {
 
     /// The first report of a command.
     pub fn report(&self, c: u32) -> Option<Report>
-        ensures { (P : List EntrySeen) → SaysOf self.now P → result ≡ report c P }
+        ensures { result ≡ get nat_cmp self.now.reports c }
     {
         self.reports.get(&c).copied()
     }
 
     /// How often a command was sent again as a retry.
     pub fn retries(&self, c: u32) -> u64
-        ensures { (P : List EntrySeen) → SaysOf self.now P → result ≡ retries c P }
+        ensures { result ≡ (row_at self.now.rows c).retries }
     {
         row_in(&self.rows, c).retries
     }

@@ -7,5 +7,8 @@ mod lines;
 mod pieces;
 mod results;
 mod words;
+mod write;
 
 pub use lines::WriteEnd;
+pub use results::{Ended, Report};
+pub use write::{write_host, write_skips};
