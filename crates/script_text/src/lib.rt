@@ -1,0 +1,19 @@
+//! Reads the script of a run: the hosts with their units and commands, and the steps that are played.
+#![tactic(auto)]
+
+mod address;
+mod draft;
+mod handlers;
+mod kind;
+mod line;
+mod number;
+mod pieces;
+mod read;
+mod reader;
+mod script;
+mod slots;
+mod steps;
+mod words;
+
+pub use reader::Reader;
+pub use script::{Bad, ReadEnd, Script};
