@@ -1,0 +1,138 @@
+-- Command descriptor blocks as bytes, and why other bytes are refused.
+-- A block begins with its operation code and ends with its CONTROL byte (SAM-5, the command descriptor block). Numbers
+-- have their highest byte first. The layouts are those of SPC-4 (TEST UNIT READY, REQUEST SENSE, INQUIRY, REPORT LUNS)
+-- and SBC-3 (READ, WRITE, START STOP UNIT, READ CAPACITY and SYNCHRONIZE CACHE), with the fields that this crate names;
+-- each bit outside them is reserved and is 0.
+use Rattle.std.specs.Prelude.{ℕ, ◌+◌, ◌-◌, ◌^◌, ◌<◌, List, [], ◌∷◌, ◌++◌, length, Option, Some, None, Bool, true, false, ◌==◌, if◌then◌else◌, bit_and, ⊤}
+use Rattle.std.specs.Int.{bytes_high_first}
+use Rattle.cdb_codec.specs.declared.cdb.Cdb.{Cdb}
+use Rattle.cdb_codec.specs.declared.cdb.Cdb.TheVariants.{TestUnitReady, RequestSense, Read6, Write6, Inquiry, StartStop, ReadCapacity10, Read10, Write10, SyncCache10, Read16, Write16, ReportLuns}
+use Rattle.cdb_codec.specs.declared.cdb.CdbFault.{CdbFault}
+use Rattle.cdb_codec.specs.declared.cdb.CdbFault.TheVariants.{UnknownCode, WrongLength, ReservedField}
+
+-- a flag in the lowest bit
+abbrev pub flag : Bool → ℕ
+flag false = 0
+flag true = 1
+
+-- READ(6) and WRITE(6) after the operation code: 21 bits of logical block address, the length, CONTROL
+abbrev pub short_transfer : ℕ → ℕ → ℕ → List ℕ
+short_transfer lba len control = bytes_high_first 3 lba ++ len ∷ control ∷ []
+
+-- READ(10), WRITE(10) and SYNCHRONIZE CACHE(10) after the operation code: flags, address, group, length, CONTROL
+abbrev pub transfer : ℕ → ℕ → ℕ → ℕ → ℕ → List ℕ
+transfer flags lba group len control = (flags ∷ bytes_high_first 4 lba) ++ (group ∷ bytes_high_first 2 len) ++ control ∷ []
+
+-- READ(16) and WRITE(16) after the operation code: flags, address, length, group, CONTROL
+abbrev pub long_transfer : ℕ → ℕ → ℕ → ℕ → ℕ → List ℕ
+long_transfer flags lba len group control = (flags ∷ bytes_high_first 8 lba) ++ bytes_high_first 4 len ++ group ∷ control ∷ []
+
+-- the bytes of a command
+abbrev pub spelling : Cdb → List ℕ
+spelling (TestUnitReady control) = 0x00 ∷ 0 ∷ 0 ∷ 0 ∷ 0 ∷ control ∷ []
+spelling (RequestSense desc alloc control) = 0x03 ∷ flag desc ∷ 0 ∷ 0 ∷ alloc ∷ control ∷ []
+spelling (Read6 lba len control) = 0x08 ∷ short_transfer lba len control
+spelling (Write6 lba len control) = 0x0a ∷ short_transfer lba len control
+spelling (Inquiry evpd page alloc control) = (0x12 ∷ flag evpd ∷ page ∷ bytes_high_first 2 alloc) ++ control ∷ []
+spelling (StartStop immed bits control) = 0x1b ∷ flag immed ∷ 0 ∷ 0 ∷ bits ∷ control ∷ []
+spelling (ReadCapacity10 control) = 0x25 ∷ 0 ∷ 0 ∷ 0 ∷ 0 ∷ 0 ∷ 0 ∷ 0 ∷ 0 ∷ control ∷ []
+spelling (Read10 flags lba group len control) = 0x28 ∷ transfer flags lba group len control
+spelling (Write10 flags lba group len control) = 0x2a ∷ transfer flags lba group len control
+spelling (SyncCache10 flags lba group len control) = 0x35 ∷ transfer flags lba group len control
+spelling (Read16 flags lba len group control) = 0x88 ∷ long_transfer flags lba len group control
+spelling (Write16 flags lba len group control) = 0x8a ∷ long_transfer flags lba len group control
+spelling (ReportLuns select alloc control) = (0xa0 ∷ 0 ∷ select ∷ 0 ∷ 0 ∷ 0 ∷ bytes_high_first 4 alloc) ++ 0 ∷ control ∷ []
+
+abbrev pub FitsShortTransfer : ℕ → ℕ → ℕ → Type 0
+FitsShortTransfer lba len control = (lba < 2 ^ 21) × (len < 2 ^ 8) × (control < 2 ^ 8)
+
+abbrev pub FitsTransfer : ℕ → ℕ → ℕ → ℕ → ℕ → Type 0
+FitsTransfer flags lba group len control = (flags < 2 ^ 8) × (lba < 2 ^ 32) × (group < 2 ^ 8) × (len < 2 ^ 16) × (control < 2 ^ 8)
+
+abbrev pub FitsLongTransfer : ℕ → ℕ → ℕ → ℕ → ℕ → Type 0
+FitsLongTransfer flags lba len group control = (flags < 2 ^ 8) × (lba < 2 ^ 64) × (len < 2 ^ 32) × (group < 2 ^ 8) × (control < 2 ^ 8)
+
+-- each field of the command has its width, so the command has a spelling
+abbrev pub Fits : Cdb → Type 0
+Fits (TestUnitReady control) = control < 2 ^ 8
+Fits (RequestSense desc alloc control) = (alloc < 2 ^ 8) × (control < 2 ^ 8)
+Fits (Read6 lba len control) = FitsShortTransfer lba len control
+Fits (Write6 lba len control) = FitsShortTransfer lba len control
+Fits (Inquiry evpd page alloc control) = (page < 2 ^ 8) × (alloc < 2 ^ 16) × (control < 2 ^ 8)
+Fits (StartStop immed bits control) = (bits < 2 ^ 8) × (control < 2 ^ 8)
+Fits (ReadCapacity10 control) = control < 2 ^ 8
+Fits (Read10 flags lba group len control) = FitsTransfer flags lba group len control
+Fits (Write10 flags lba group len control) = FitsTransfer flags lba group len control
+Fits (SyncCache10 flags lba group len control) = FitsTransfer flags lba group len control
+Fits (Read16 flags lba len group control) = FitsLongTransfer flags lba len group control
+Fits (Write16 flags lba len group control) = FitsLongTransfer flags lba len group control
+Fits (ReportLuns select alloc control) = (select < 2 ^ 8) × (alloc < 2 ^ 32) × (control < 2 ^ 8)
+
+-- the address of a READ(6) or WRITE(6) has 21 bits; no other field can be too large for its place
+abbrev pub HasShortAddress : Cdb → Type 0
+HasShortAddress (Read6 lba len control) = lba < 2 ^ 21
+HasShortAddress (Write6 lba len control) = lba < 2 ^ 21
+HasShortAddress _ = ⊤
+
+-- one of the reads and writes of 10 or 16 bytes, or SYNCHRONIZE CACHE(10)
+abbrev pub IsWideTransfer : Cdb → Type 0
+IsWideTransfer (Read10 flags lba group len control) = ⊤
+IsWideTransfer (Write10 flags lba group len control) = ⊤
+IsWideTransfer (SyncCache10 flags lba group len control) = ⊤
+IsWideTransfer (Read16 flags lba len group control) = ⊤
+IsWideTransfer (Write16 flags lba len group control) = ⊤
+IsWideTransfer _ = ⊥
+
+-- the named bits of each byte of these blocks
+abbrev pub short_transfer_bits : List ℕ
+short_transfer_bits = 0xff ∷ 0x1f ∷ 0xff ∷ 0xff ∷ 0xff ∷ 0xff ∷ []
+
+abbrev pub transfer_bits : List ℕ
+transfer_bits = 0xff ∷ 0xff ∷ 0xff ∷ 0xff ∷ 0xff ∷ 0xff ∷ 0xff ∷ 0xff ∷ 0xff ∷ 0xff ∷ []
+
+abbrev pub long_transfer_bits : List ℕ
+long_transfer_bits = 0xff ∷ 0xff ∷ 0xff ∷ 0xff ∷ 0xff ∷ 0xff ∷ 0xff ∷ 0xff ∷ 0xff ∷ 0xff ∷ 0xff ∷ 0xff ∷ 0xff ∷ 0xff ∷ 0xff ∷ 0xff ∷ []
+
+-- the named bits of each byte of a block with this operation code, as many bytes as the block has; none for an unknown code
+abbrev pub named_bits : ℕ → Option (List ℕ)
+named_bits code =
+    if code == 0x00 then Some (0xff ∷ 0 ∷ 0 ∷ 0 ∷ 0 ∷ 0xff ∷ [])
+    else (if code == 0x03 then Some (0xff ∷ 0x01 ∷ 0 ∷ 0 ∷ 0xff ∷ 0xff ∷ [])
+    else (if code == 0x08 then Some short_transfer_bits
+    else (if code == 0x0a then Some short_transfer_bits
+    else (if code == 0x12 then Some (0xff ∷ 0x01 ∷ 0xff ∷ 0xff ∷ 0xff ∷ 0xff ∷ [])
+    else (if code == 0x1b then Some (0xff ∷ 0x01 ∷ 0 ∷ 0 ∷ 0xff ∷ 0xff ∷ [])
+    else (if code == 0x25 then Some (0xff ∷ 0 ∷ 0 ∷ 0 ∷ 0 ∷ 0 ∷ 0 ∷ 0 ∷ 0 ∷ 0xff ∷ [])
+    else (if code == 0x28 then Some transfer_bits
+    else (if code == 0x2a then Some transfer_bits
+    else (if code == 0x35 then Some transfer_bits
+    else (if code == 0x88 then Some long_transfer_bits
+    else (if code == 0x8a then Some long_transfer_bits
+    else (if code == 0xa0 then Some (0xff ∷ 0 ∷ 0xff ∷ 0 ∷ 0 ∷ 0 ∷ 0xff ∷ 0xff ∷ 0xff ∷ 0xff ∷ 0 ∷ 0xff ∷ [])
+    else None))))))))))))
+
+-- the first place, counted from `place` on, whose byte has a bit that isn't named
+abbrev pub first_reserved : ℕ → List ℕ → List ℕ → Option ℕ
+first_reserved place [] named = None
+first_reserved place (byte ∷ bytes) [] = None
+first_reserved place (byte ∷ bytes) (bits ∷ named) =
+    if bit_and (0xff - bits) byte == 0 then first_reserved (place + 1) bytes named else Some place
+
+abbrev pub reserved_fault : Option ℕ → Option CdbFault
+reserved_fault None = None
+reserved_fault (Some place) = Some (ReservedField place)
+
+-- the length first, then the reserved bits
+abbrev pub layout_fault : List ℕ → List ℕ → Option CdbFault
+layout_fault bytes named =
+    if length bytes == length named then reserved_fault (first_reserved 0 bytes named)
+    else Some (WrongLength (length bytes) (length named))
+
+abbrev pub code_fault : ℕ → List ℕ → Option (List ℕ) → Option CdbFault
+code_fault code bytes None = Some (UnknownCode code)
+code_fault code bytes (Some named) = layout_fault bytes named
+
+-- why these bytes are no command, the first reason of: no byte at all, the code, the length, a reserved bit
+abbrev pub refusal : List ℕ → Option CdbFault
+refusal [] = Some (WrongLength 0 1)
+refusal (code ∷ rest) = code_fault code (code ∷ rest) (named_bits code)
