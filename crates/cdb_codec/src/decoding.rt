@@ -46,6 +46,9 @@ fn only_named(place: u8, byte: u8, named: u8) -> Result<(), CdbFault>
     }
 }
 
+// In the functions below `r1` is the reserved byte at place 1, and so on. Of a number in several bytes the one with 0 in its
+// name is the highest.
+
 fn test_unit_ready(b: &[u8]) -> Result<Cdb, CdbFault>
     requires { slice_get b.now 0 ≡ Some 0x00 }
     ensures found { IfOk result (λ c. Fits c × (spelling c ≡ b.now)) }
@@ -66,14 +69,14 @@ fn request_sense(b: &[u8]) -> Result<Cdb, CdbFault>
     ensures found { IfOk result (λ c. Fits c × (spelling c ≡ b.now)) }
     ensures refused { IfErr result (λ e. refusal b.now ≡ Some e) }
 {
-    let [_, f1, r2, r3, alloc, control] = b else {
+    let [_, desc, r2, r3, alloc, control] = b else {
         return Err(CdbFault::WrongLength(b.len(), 6));
     };
-    only_named(1, *f1, 0x01)?;
+    only_named(1, *desc, 0x01)?;
     only_named(2, *r2, 0)?;
     only_named(3, *r3, 0)?;
     Ok(Cdb::RequestSense {
-        desc: *f1 == 1,
+        desc: *desc == 1,
         alloc: *alloc,
         control: *control,
     })
@@ -88,7 +91,8 @@ struct ShortTransfer {
 }
 
 fn short_transfer_fields(b: &[u8]) -> Result<ShortTransfer, CdbFault>
-    ensures found { IfOk result (λ t. FitsShortTransfer t.lba t.len t.control × (slice_index b.now 0 ∷ short_transfer t.lba t.len t.control ≡ b.now)) }
+    ensures found { IfOk result (λ t. FitsShortTransfer t.lba t.len t.control
+        × (slice_index b.now 0 ∷ short_transfer t.lba t.len t.control ≡ b.now)) }
     ensures refused { IfErr result (λ e. layout_fault b.now short_transfer_bits ≡ Some e) }
 {
     let [_, l0, l1, l2, len, control] = b else {
@@ -125,12 +129,12 @@ fn inquiry(b: &[u8]) -> Result<Cdb, CdbFault>
     ensures found { IfOk result (λ c. Fits c × (spelling c ≡ b.now)) }
     ensures refused { IfErr result (λ e. refusal b.now ≡ Some e) }
 {
-    let [_, f1, page, a0, a1, control] = b else {
+    let [_, evpd, page, a0, a1, control] = b else {
         return Err(CdbFault::WrongLength(b.len(), 6));
     };
-    only_named(1, *f1, 0x01)?;
+    only_named(1, *evpd, 0x01)?;
     Ok(Cdb::Inquiry {
-        evpd: *f1 == 1,
+        evpd: *evpd == 1,
         page: *page,
         alloc: u16::from_be_bytes([*a0, *a1]),
         control: *control,
@@ -142,14 +146,14 @@ fn start_stop_unit(b: &[u8]) -> Result<Cdb, CdbFault>
     ensures found { IfOk result (λ c. Fits c × (spelling c ≡ b.now)) }
     ensures refused { IfErr result (λ e. refusal b.now ≡ Some e) }
 {
-    let [_, f1, r2, r3, bits, control] = b else {
+    let [_, immed, r2, r3, bits, control] = b else {
         return Err(CdbFault::WrongLength(b.len(), 6));
     };
-    only_named(1, *f1, 0x01)?;
+    only_named(1, *immed, 0x01)?;
     only_named(2, *r2, 0)?;
     only_named(3, *r3, 0)?;
     Ok(Cdb::StartStop {
-        immed: *f1 == 1,
+        immed: *immed == 1,
         bits: *bits,
         control: *control,
     })
@@ -185,7 +189,8 @@ struct Transfer {
 }
 
 fn transfer_fields(b: &[u8]) -> Result<Transfer, CdbFault>
-    ensures found { IfOk result (λ t. FitsTransfer t.flags t.lba t.group t.len t.control × (slice_index b.now 0 ∷ transfer t.flags t.lba t.group t.len t.control ≡ b.now)) }
+    ensures found { IfOk result (λ t. FitsTransfer t.flags t.lba t.group t.len t.control
+        × (slice_index b.now 0 ∷ transfer t.flags t.lba t.group t.len t.control ≡ b.now)) }
     ensures refused { IfErr result (λ e. layout_fault b.now transfer_bits ≡ Some e) }
 {
     let [_, flags, l0, l1, l2, l3, group, n0, n1, control] = b else {
@@ -256,7 +261,8 @@ struct LongTransfer {
 }
 
 fn long_transfer_fields(b: &[u8]) -> Result<LongTransfer, CdbFault>
-    ensures found { IfOk result (λ t. FitsLongTransfer t.flags t.lba t.len t.group t.control × (slice_index b.now 0 ∷ long_transfer t.flags t.lba t.len t.group t.control ≡ b.now)) }
+    ensures found { IfOk result (λ t. FitsLongTransfer t.flags t.lba t.len t.group t.control
+        × (slice_index b.now 0 ∷ long_transfer t.flags t.lba t.len t.group t.control ≡ b.now)) }
     ensures refused { IfErr result (λ e. layout_fault b.now long_transfer_bits ≡ Some e) }
 {
     let [
