@@ -14,20 +14,22 @@ abbrev pub flag : Bool → ℕ
 flag false = 0
 flag true = 1
 
--- READ(6) and WRITE(6) after the operation code: bits 4 to 0 of byte 1 with bytes 2 and 3 are the LOGICAL BLOCK ADDRESS,
--- byte 4 is the TRANSFER LENGTH, byte 5 CONTROL
+-- READ(6) and WRITE(6) after the operation code: bits 4 to 0 of byte 1 with bytes 2 and 3 are the LOGICAL BLOCK
+-- ADDRESS, byte 4 is the TRANSFER LENGTH, byte 5 CONTROL
 abbrev pub short_transfer : ℕ → ℕ → ℕ → List ℕ
 short_transfer lba len control = bytes_high_first 3 lba ++ len ∷ control ∷ []
 
--- READ(10), WRITE(10) and SYNCHRONIZE CACHE(10) after the operation code: byte 1 has flags, bytes 2 to 5 are the LOGICAL
--- BLOCK ADDRESS, byte 6 has the GROUP NUMBER, bytes 7 and 8 are the number of blocks, byte 9 CONTROL
+-- READ(10), WRITE(10) and SYNCHRONIZE CACHE(10) after the operation code: byte 1 has flags, bytes 2 to 5 are the
+-- LOGICAL BLOCK ADDRESS, byte 6 has the GROUP NUMBER, bytes 7 and 8 are the number of blocks, byte 9 CONTROL
 abbrev pub transfer : ℕ → ℕ → ℕ → ℕ → ℕ → List ℕ
-transfer flags lba group len control = (flags ∷ bytes_high_first 4 lba) ++ (group ∷ bytes_high_first 2 len) ++ control ∷ []
+transfer flags lba group len control =
+    (flags ∷ bytes_high_first 4 lba) ++ (group ∷ bytes_high_first 2 len) ++ control ∷ []
 
--- READ(16) and WRITE(16) after the operation code: byte 1 has flags, bytes 2 to 9 are the LOGICAL BLOCK ADDRESS, bytes 10
--- to 13 the TRANSFER LENGTH, byte 14 has the GROUP NUMBER, byte 15 is CONTROL
+-- READ(16) and WRITE(16) after the operation code: byte 1 has flags, bytes 2 to 9 are the LOGICAL BLOCK ADDRESS, bytes
+-- 10 to 13 the TRANSFER LENGTH, byte 14 has the GROUP NUMBER, byte 15 is CONTROL
 abbrev pub long_transfer : ℕ → ℕ → ℕ → ℕ → ℕ → List ℕ
-long_transfer flags lba len group control = (flags ∷ bytes_high_first 8 lba) ++ bytes_high_first 4 len ++ group ∷ control ∷ []
+long_transfer flags lba len group control =
+    (flags ∷ bytes_high_first 8 lba) ++ bytes_high_first 4 len ++ group ∷ control ∷ []
 
 -- the bytes of a command
 abbrev pub spelling : Cdb → List ℕ
@@ -52,17 +54,20 @@ spelling (SyncCache10 flags lba group len control) = 0x35 ∷ transfer flags lba
 spelling (Read16 flags lba len group control) = 0x88 ∷ long_transfer flags lba len group control
 spelling (Write16 flags lba len group control) = 0x8a ∷ long_transfer flags lba len group control
 -- SPC-4, REPORT LUNS: byte 2 SELECT REPORT, bytes 6 to 9 ALLOCATION LENGTH
-spelling (ReportLuns select alloc control) = (0xa0 ∷ 0 ∷ select ∷ 0 ∷ 0 ∷ 0 ∷ bytes_high_first 4 alloc) ++ 0 ∷ control ∷ []
+spelling (ReportLuns select alloc control) =
+    (0xa0 ∷ 0 ∷ select ∷ 0 ∷ 0 ∷ 0 ∷ bytes_high_first 4 alloc) ++ 0 ∷ control ∷ []
 
 -- each number has at most the bits of its field
 abbrev pub FitsShortTransfer : ℕ → ℕ → ℕ → Type 0
 FitsShortTransfer lba len control = (lba < 2 ^ 21) × (len < 2 ^ 8) × (control < 2 ^ 8)
 
 abbrev pub FitsTransfer : ℕ → ℕ → ℕ → ℕ → ℕ → Type 0
-FitsTransfer flags lba group len control = (flags < 2 ^ 8) × (lba < 2 ^ 32) × (group < 2 ^ 8) × (len < 2 ^ 16) × (control < 2 ^ 8)
+FitsTransfer flags lba group len control =
+    (flags < 2 ^ 8) × (lba < 2 ^ 32) × (group < 2 ^ 8) × (len < 2 ^ 16) × (control < 2 ^ 8)
 
 abbrev pub FitsLongTransfer : ℕ → ℕ → ℕ → ℕ → ℕ → Type 0
-FitsLongTransfer flags lba len group control = (flags < 2 ^ 8) × (lba < 2 ^ 64) × (len < 2 ^ 32) × (group < 2 ^ 8) × (control < 2 ^ 8)
+FitsLongTransfer flags lba len group control =
+    (flags < 2 ^ 8) × (lba < 2 ^ 64) × (len < 2 ^ 32) × (group < 2 ^ 8) × (control < 2 ^ 8)
 
 -- the command has a spelling: each of its numbers has at most the bits of its field
 abbrev pub Fits : Cdb → Type 0
@@ -86,14 +91,18 @@ HasShortAddress (Read6 lba len control) = lba < 2 ^ 21
 HasShortAddress (Write6 lba len control) = lba < 2 ^ 21
 HasShortAddress _ = ⊤
 
--- one of the reads and writes of 10 or 16 bytes, or SYNCHRONIZE CACHE(10)
-abbrev pub IsWideTransfer : Cdb → Type 0
-IsWideTransfer (Read10 flags lba group len control) = ⊤
-IsWideTransfer (Write10 flags lba group len control) = ⊤
-IsWideTransfer (SyncCache10 flags lba group len control) = ⊤
-IsWideTransfer (Read16 flags lba len group control) = ⊤
-IsWideTransfer (Write16 flags lba len group control) = ⊤
-IsWideTransfer _ = ⊥
+-- READ(10), WRITE(10) or SYNCHRONIZE CACHE(10)
+abbrev pub IsTransfer : Cdb → Type 0
+IsTransfer (Read10 flags lba group len control) = ⊤
+IsTransfer (Write10 flags lba group len control) = ⊤
+IsTransfer (SyncCache10 flags lba group len control) = ⊤
+IsTransfer _ = ⊥
+
+-- READ(16) or WRITE(16)
+abbrev pub IsLongTransfer : Cdb → Type 0
+IsLongTransfer (Read16 flags lba len group control) = ⊤
+IsLongTransfer (Write16 flags lba len group control) = ⊤
+IsLongTransfer _ = ⊥
 
 -- the named bits of each byte of the blocks that several commands have
 abbrev pub short_transfer_bits : List ℕ
@@ -103,10 +112,11 @@ abbrev pub transfer_bits : List ℕ
 transfer_bits = 0xff ∷ 0xff ∷ 0xff ∷ 0xff ∷ 0xff ∷ 0xff ∷ 0xff ∷ 0xff ∷ 0xff ∷ 0xff ∷ []
 
 abbrev pub long_transfer_bits : List ℕ
-long_transfer_bits = 0xff ∷ 0xff ∷ 0xff ∷ 0xff ∷ 0xff ∷ 0xff ∷ 0xff ∷ 0xff ∷ 0xff ∷ 0xff ∷ 0xff ∷ 0xff ∷ 0xff ∷ 0xff ∷ 0xff ∷ 0xff ∷ []
+long_transfer_bits =
+    0xff ∷ 0xff ∷ 0xff ∷ 0xff ∷ 0xff ∷ 0xff ∷ 0xff ∷ 0xff ∷ 0xff ∷ 0xff ∷ 0xff ∷ 0xff ∷ 0xff ∷ 0xff ∷ 0xff ∷ 0xff ∷ []
 
--- the named bits of each byte of a block with this operation code, as many bytes as the block has; none where the code is
--- unknown
+-- the named bits of each byte of a block with this operation code, as many bytes as the block has; none where the code
+-- is unknown
 abbrev pub named_bits : ℕ → Option (List ℕ)
 named_bits code =
     if code == 0x00 then Some (0xff ∷ 0 ∷ 0 ∷ 0 ∷ 0 ∷ 0xff ∷ [])

@@ -1,10 +1,10 @@
 /// A command, with the fields of its block. TEST UNIT READY, REQUEST SENSE, INQUIRY and REPORT LUNS are those of SPC-4,
 /// the others those of SBC-3; the name's number is the length of the block in bytes.
 ///
-/// In all of them `control` is the CONTROL byte, the last of the block (SAM-5, the command descriptor block). `lba` is the
-/// LOGICAL BLOCK ADDRESS of the first block, and `len` how many logical blocks from there on. `flags` is byte 1 as a
-/// whole, and `group` the byte that holds the GROUP NUMBER. `alloc` is the ALLOCATION LENGTH: the most bytes of data-in
-/// that are wanted.
+/// In all of them `control` is the CONTROL byte, the last of the block (SAM-5, the command descriptor block). `lba` is
+/// the LOGICAL BLOCK ADDRESS of the first block, and `len` how many logical blocks from there on. `flags` is the whole
+/// of byte 1, and `group` the byte that holds the GROUP NUMBER. `alloc` is the ALLOCATION LENGTH: the most bytes of
+/// data-in that are wanted.
 #[derive(Clone, Copy, Debug, PartialEq, Eq)]
 pub enum Cdb {
     /// 00h, 6 bytes.
@@ -29,8 +29,8 @@ pub enum Cdb {
         len: u8,
         control: u8,
     },
-    /// 12h, 6 bytes. `evpd` is EVPD: whether the vital product data page of the PAGE CODE `page` is wanted in place of the
-    /// standard data.
+    /// 12h, 6 bytes. `evpd` is EVPD: whether the vital product data page of the PAGE CODE `page` is wanted in place of
+    /// the standard data.
     Inquiry {
         evpd: bool,
         page: u8,
@@ -88,8 +88,8 @@ pub enum Cdb {
         group: u8,
         control: u8,
     },
-    /// A0h, 12 bytes. `select` is SELECT REPORT, which says what logical units are listed: 02h all of them, 01h the well
-    /// known ones alone, 00h all but these.
+    /// A0h, 12 bytes. `select` is SELECT REPORT, which says what logical units are listed: 02h all of them, 01h the
+    /// well known ones alone, 00h all but these.
     ReportLuns {
         select: u8,
         alloc: u32,

@@ -46,8 +46,8 @@ fn only_named(place: u8, byte: u8, named: u8) -> Result<(), CdbFault>
     }
 }
 
-// In the functions below `r1` is the reserved byte at place 1, and so on. Of a number in several bytes the one with 0 in its
-// name is the highest.
+// In the functions below `r1` is the reserved byte at place 1, and so on. Of the bytes of a number the one with 0 in
+// its name is the highest.
 
 fn test_unit_ready(b: &[u8]) -> Result<Cdb, CdbFault>
     requires { slice_get b.now 0 ≡ Some 0x00 }

@@ -1,6 +1,6 @@
 ghost use Rattle.std.specs.Prelude.{◌≡◌, ◌<◌, ◌^◌, ◌∷◌};
 ghost use Rattle.mid_base.specs.Bytes.{cdb_list};
-ghost use Rattle.cdb_codec.specs.Grammar.{spelling, Fits, HasShortAddress, IsWideTransfer, short_transfer, transfer, long_transfer};
+ghost use Rattle.cdb_codec.specs.Grammar.{spelling, Fits, HasShortAddress, IsTransfer, IsLongTransfer, short_transfer, transfer, long_transfer};
 
 use crate::Cdb;
 use mid_base::CdbBytes;
@@ -40,17 +40,13 @@ pub fn encode(c: &Cdb) -> CdbBytes
             alloc,
             control,
         } => report_luns(select, alloc, control),
-        Cdb::Read10 { .. }
-        | Cdb::Write10 { .. }
-        | Cdb::SyncCache10 { .. }
-        | Cdb::Read16 { .. }
-        | Cdb::Write16 { .. } => wide_transfer(c),
+        Cdb::Read10 { .. } | Cdb::Write10 { .. } | Cdb::SyncCache10 { .. } => ten_byte_transfer(c),
+        Cdb::Read16 { .. } | Cdb::Write16 { .. } => sixteen_byte_transfer(c),
     }
 }
 
-/// The block of a command that moves or synchronizes blocks, of 10 or 16 bytes.
-fn wide_transfer(c: &Cdb) -> CdbBytes
-    requires { IsWideTransfer c.now }
+fn ten_byte_transfer(c: &Cdb) -> CdbBytes
+    requires { IsTransfer c.now }
     ensures fits { Fits c.now }
     ensures spelled { cdb_list result ≡ spelling c.now }
 {
@@ -76,6 +72,16 @@ fn wide_transfer(c: &Cdb) -> CdbBytes
             len,
             control,
         } => transfer_block(0x35, flags, lba, group, len, control),
+        _ => unreachable!(),
+    }
+}
+
+fn sixteen_byte_transfer(c: &Cdb) -> CdbBytes
+    requires { IsLongTransfer c.now }
+    ensures fits { Fits c.now }
+    ensures spelled { cdb_list result ≡ spelling c.now }
+{
+    match *c {
         Cdb::Read16 {
             flags,
             lba,
