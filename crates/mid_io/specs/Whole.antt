@@ -1,7 +1,7 @@
 -- What reading to the end and writing to the end do.
 use Rattle.std.specs.Prelude.{Vec, ◌≡◌, ℕ, ◌≤◌, List, ◌++◌, length, take, Option, None, Some, Result, Ok, Err, ⊤}
 use Rattle.std.specs.declared.alloc.Global.{Global}
-use Rattle.std.specs.Io.KnownBytes.{Appends}
+use Rattle.std.specs.Io.KnownBytes.{Appends, Consumes}
 use Rattle.mid_io.specs.Causes.{Rose}
 use Rattle.mid_io.specs.declared.ends.Failed.{Failed}
 use Rattle.mid_io.specs.declared.reading.ReadFault.{ReadFault}
@@ -22,6 +22,10 @@ abbrev pub ReadsAll : Option (List ℕ) → ℕ → ℕ → ℕ → Result (Vec 
 ReadsAll left most before now (Ok bytes) = IsFront left most bytes.items
 ReadsAll left most before now (Err faults.Failed) = Rose before now
 ReadsAll left most before now (Err faults.NoMemory) = ⊤
+
+-- no more than so many bytes were taken from what was left
+abbrev pub TakesAtMost : Option (List ℕ) → Option (List ℕ) → ℕ → Type 0
+TakesAtMost old new most = (bytes : List ℕ) × (length bytes ≤ most) × Consumes old new bytes
 
 -- a front of these bytes went out
 abbrev pub IsCutShort : Option (List ℕ) → Option (List ℕ) → List ℕ → Type 0

@@ -1,6 +1,6 @@
 ghost use Rattle.std.specs.Prelude.{◌≤◌, ◌<◌, ◌^◌, IfOk};
 ghost use Rattle.std.specs.Io.KnownBytes.{Consumes};
-ghost use Rattle.mid_io.specs.Whole.{ReadsAll};
+ghost use Rattle.mid_io.specs.Whole.{ReadsAll, TakesAtMost};
 
 use crate::Source;
 use std::alloc::Global;
@@ -20,7 +20,8 @@ pub enum ReadFault {
 pub fn read_all<S: Source>(alloc: Global, source: &mut S, most: usize) -> Result<Vec<u8>, ReadFault>
     requires { most < 2 ^ 60 }
     ensures answer { ReadsAll (S.left source.old) most (S.faults source.old) (S.faults source.new) result }
-    ensures taken { IfOk result (λ bytes. Consumes (S.left source.old) (S.left source.new) bytes.items) }
+    ensures whole { IfOk result (λ bytes. Consumes (S.left source.old) (S.left source.new) bytes.items) }
+    ensures taken { TakesAtMost (S.left source.old) (S.left source.new) most }
     ensures later { S.faults source.old ≤ S.faults source.new }
 {
     let mut bytes = Vec::new(alloc);
