@@ -38,7 +38,7 @@ tests_follow ds es ready k rest (more d others first fs say kept t all) f =
     subst (Follows (tests (d ∷ others) k)) (sym (append_assoc first fs rest))
       (one_test d others k first (fs ++ rest) say t (tests_follow others fs kept (λ r. k (kept_if say d r)) rest all f))
 
-onto-reverse : (g P : List Entry) → onto g P ≡ reverse g ++ P
+pub onto-reverse : (g P : List Entry) → onto g P ≡ reverse g ++ P
 onto-reverse [] P = refl
 onto-reverse (e ∷ g) P = onto-reverse g (e ∷ P) ∙ (sym (append_assoc (reverse g) (e ∷ []) P) ∙ ap (λ r. r ++ P) (sym (reverse-append (e ∷ []) g)))
 

@@ -18,3 +18,4 @@ pub mod Drained
 pub mod Worked
 pub mod Counts
 pub mod Steps
+pub mod Headline

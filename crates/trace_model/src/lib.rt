@@ -11,7 +11,7 @@ mod worked;
 
 pub use laws::{
     acts_are_quiet, each_attempt_has_one_owner, each_command_is_told_once, groups_are_places,
-    nothing_follows_a_report, places_are_groups,
+    legal_journals_keep_the_headline, nothing_follows_a_report, places_are_groups,
 };
 pub use standing::Standing;
 pub use worked::{
