@@ -1,5 +1,5 @@
 -- Parts of the caller's slice: which places they are, and where they lie.
-use Rattle.std.specs.Prelude.{◌≡◌, ℕ, ◌+◌, ◌≤◌, List, [], ◌∷◌, map, length, Option, None, if◌then◌else◌, slice_index, slice_range}
+use Rattle.std.specs.Prelude.{◌≡◌, ℕ, ◌+◌, ◌≤◌, List, [], ◌∷◌, map, length, None, if◌then◌else◌, slice_index, slice_range}
 use denote.Bor.{Bor}
 use Rattle.sense_data.specs.Grammar.{refusal, is_fixed, sense_end, descriptor_end, starts_from, first_cut}
 

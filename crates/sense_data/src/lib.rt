@@ -1,8 +1,8 @@
 //! Sense data of SCSI (SPC-4, 4.5): a view over the bytes that a device sent, and sense data made of its fields.
 //!
-//! `SenseView::read` refuses what isn't sense data and lends the rest of the calls the caller's own bytes: nothing is
-//! copied and no call takes memory. The definitions in `specs/Grammar.antt` say on plain lists of bytes which lists are
-//! sense data and what their fields are.
+//! `SenseView::read` refuses what isn't sense data. A view and its descriptors are parts of the caller's own bytes:
+//! nothing is copied, and no call takes memory. The definitions in `specs/Grammar.antt` say of a plain list of bytes
+//! whether it is sense data and what its fields are.
 #![tactic(auto)]
 
 mod builders;

@@ -36,9 +36,9 @@ impl<'a> SenseView<'a> {
     /// A view of these bytes, where they are sense data: byte 0 has a response code of SPC-4, 4.5.1, there are 8 bytes
     /// at least, and in the descriptor form each descriptor is whole.
     ///
-    /// Sense data ends with the slice, or before where its additional length says so (byte 7, counted from byte 8). Bytes
-    /// past that end aren't looked at, and one that is cut short, as by an allocation length, is read as far as it goes,
-    /// except within a descriptor. The errors are tested in the order of `SenseFault`.
+    /// Sense data ends with the slice, or before that where its additional length says so (byte 7, counted from byte 8);
+    /// what follows isn't looked at. Sense data that an allocation length cut short is read as far as it goes, except
+    /// where the cut is within a descriptor. The errors are tested for in the order of `SenseFault`.
     pub fn read(b: &'a [u8]) -> Result<SenseView<'a>, SenseFault>
         ensures read { IfOk result (λ v. IsTrue (is_valid_sense b.now) × (v ≡ b.entry)) }
         ensures refused { IfErr result (λ e. refusal b.now ≡ Some e) }

@@ -1,4 +1,4 @@
-use Rattle.std.proofs.Common.{rules, ◌≡◌, Some, arith}
+use Rattle.std.proofs.Common.{rules, ◌≡◌, Some}
 use Rattle.mid_base.specs.Bytes.{sense_list}
 use Rattle.sense_data.specs.Grammar.{descriptor_sense}
 use Rattle.sense_data.proofs.Built.{descriptor_back}

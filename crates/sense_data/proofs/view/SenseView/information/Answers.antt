@@ -1,4 +1,4 @@
-use Rattle.std.proofs.Common.{ap, rules, ◌∙◌}
+use Rattle.std.proofs.Common.{ap, ◌∙◌}
 use Rattle.std.specs.Prelude.{find}
 use Rattle.sense_data.specs.Grammar.{is_information}
 use Rattle.sense_data.specs.Parts.{bodies}
