@@ -5,3 +5,4 @@ pub mod Fed
 pub mod Script
 pub mod Gives
 pub mod Reads
+pub mod Playable

@@ -67,13 +67,13 @@ expects said lines.EndLine = is_some said.command && not said.ended
 
 -- what may stand at a place of a line
 pub data Slot : Type 0 where
-  Number : ℕ → ℕ → Slot        -- a number, from the first to the second
-  KnownHost : Slot             -- the number of a host that an earlier line has
-  Callbacks : Slot             -- the letters of a host's callbacks
-  Address : Slot               -- an address
-  KnownUnit : Slot             -- the address of a unit that an earlier line has
-  Exactly : List ℕ → Slot      -- this word
-  AnyStep : Slot               -- the name of a step
+  Number : ℕ → ℕ → Slot  -- a number, from the first to the second
+  KnownHost : Slot  -- the number of a host that an earlier line has
+  Callbacks : Slot  -- the letters of a host's callbacks
+  Address : Slot  -- an address
+  KnownUnit : Slot  -- the address of a unit that an earlier line has
+  Exactly : List ℕ → Slot  -- this word
+  AnyStep : Slot  -- the name of a step
 
 -- what stands behind the first word of a line
 abbrev pub slots : Keyword → List Slot
@@ -171,16 +171,18 @@ adds n said lines.HostLine (number ∷ can_queue ∷ callbacks ∷ rest) =
 adds n said lines.LunLine (host ∷ unit ∷ blocks ∷ depth ∷ rest) =
     record said { lun = Some (record { dev = address_value unit; blocks = value blocks; depth = value depth; read_only = false; stopped = false; start = Running }) }
 adds n said lines.CommandLine (id ∷ host ∷ lane ∷ unit ∷ timeout ∷ allowed ∷ rest) =
-    record said { command = Some (record {
-      id = record { 0 = value id };
-      lane = record { 0 = value lane };
-      dev = address_value unit;
-      cdb = test_unit_ready;
-      fill = 0;
-      timeout = value timeout;
-      allowed = value allowed;
-      failfast = false;
-    }) }
+    record said {
+      command = Some (record {
+        id = record { 0 = value id };
+        lane = record { 0 = value lane };
+        dev = address_value unit;
+        cdb = test_unit_ready;
+        fill = 0;
+        timeout = value timeout;
+        allowed = value allowed;
+        failfast = false;
+      });
+    }
 adds n said lines.StepLine (host ∷ rest) = record said { steps = said.steps ++ (n, record { 0 = value host }, step_in rest) ∷ [] }
 adds n said lines.EndLine rest = record said { ended = true }
 adds n said _ _ = said

@@ -13,7 +13,7 @@ use Rattle.script_text.specs.declared.script.Script.{Script}
 use Rattle.script_text.specs.declared.script.Bad.{Bad}
 use Rattle.script_text.specs.Fed.{counted}
 use Rattle.script_text.specs.Pieces.{lines, words, is_last}
-use Rattle.script_text.specs.Said.{Said, nothing, keyword, expects, slots, unless_true, or_else, first_fault, adds}
+use Rattle.script_text.specs.Said.{Said, nothing, keyword, expects, slots, first_fault, adds}
 
 abbrev pub kind_number : Kind → ℕ
 kind_number kinds.Word = 1

@@ -1,5 +1,5 @@
 -- What single words of a script say: the letters of the callbacks, and addresses.
-use Rattle.std.specs.Prelude.{ℕ, ◌==◌, Bool, if◌then◌else◌, List, [], ◌∷◌, map, Option, Some, None, option_map, unwrap_or, codes, bit_or}
+use Rattle.std.specs.Prelude.{ℕ, ◌==◌, if◌then◌else◌, List, [], ◌∷◌, map, Option, Some, None, option_map, codes, bit_or}
 use Rattle.std.specs.Str.{bytes_eq}
 use Rattle.mid_base.specs.declared.names.DevAddr.{DevAddr}
 use Rattle.mid_base.specs.declared.host_spec.Handlers.{Handlers}

@@ -26,9 +26,10 @@ impl Model for Reader {
 }
 
 impl Reader {
-    ghost use Rattle.std.specs.Prelude.{◌≡◌, OnOk, OnErr, IsErr, true, false, Err};
+    ghost use Rattle.std.specs.Prelude.{◌≡◌, OnOk, OnErr, IsErr, IfOk, true, false, Err};
     ghost use Rattle.script_text.specs.Fed.{unfed, fed};
     ghost use Rattle.script_text.specs.Reads.{Reads};
+    ghost use Rattle.script_text.specs.Playable.{IsPlayable};
 
     /// A reader of no bytes so far.
     pub fn new(alloc: Global) -> Reader
@@ -63,8 +64,10 @@ impl Reader {
     }
 
     /// What all the bytes say that were fed.
+    #[tactic(auto, using(crate::proofs::Sound::script_plays))]
     pub fn finish(self) -> Result<Script, ReadEnd>
         ensures read { Reads self.text result }
+        ensures playable { IfOk result IsPlayable }
         ensures failed { self.failed ≡ true → result ≡ Err ReadEnd.NoMemory }
     {
         let Reader {
