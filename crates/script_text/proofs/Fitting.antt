@@ -8,8 +8,12 @@ use Rattle.script_text.specs.declared.words.StepName.{StepName}
 use Rattle.script_text.specs.declared.words.StepName.TheVariants as names
 use Rattle.script_text.specs.Pieces.{number, value}
 use Rattle.script_text.specs.Words.{address}
-use Rattle.script_text.specs.Said.{Said, Slot, AnyStep, KnownHost, KnownUnit, passes, unless_true, or_else, number_fault, address_fault, address_value, slot_fault, behind, step_slots, step_name, step_of, step_in, first_fault, is_host, is_unit}
-use Rattle.script_text.specs.Playable.{is_playable}
+use Rattle.script_text.specs.Said.{Said, passes, is_host, is_unit}
+use Rattle.script_text.specs.Slots.{Slot, AnyStep, KnownHost, KnownUnit, unless_true, or_else, number_fault, address_fault, slot_fault, behind, step_slots, first_fault}
+use Rattle.script_text.specs.Words.{address_value}
+use Rattle.script_text.specs.Keywords.{step_name}
+use Rattle.script_text.specs.Adds.{step_of, step_in}
+use Rattle.script_text.specs.Playable.{IsPlayableStep}
 
 pub none_unless : (b : Bool) → unless_true b ≡ None → b ≡ true
 none_unless true e = refl
@@ -45,15 +49,15 @@ number_fits low high word e = passed (is_between low high) (number word) 0 e
 pub number_below : (low high : ℕ) (word : List ℕ) → number_fault low high (number word) ≡ None → nat_le (value word) high ≡ true
 number_below low high word e = (and_parts (nat_le low (value word)) (nat_le (value word) high) (number_fits low high word e)).1
 
-pub number_zero : (word : List ℕ) → number_fault 0 0 (number word) ≡ None → (value word == 0) ≡ true
+pub number_zero : (word : List ℕ) → number_fault 0 0 (number word) ≡ None → value word ≡ 0
 number_zero word e =
     let le : value word ≤ 0 = leb-true (value word) 0 (number_below 0 0 word e) in
-    eq-eqb (value word) 0 (omega (arith, le))
+    omega (arith, le)
 
-below : (n m : ℕ) → nat_le n (m - 1) ≡ true → 0 < m → nat_lt n m ≡ true
-below n m e some = lt-ltb n m (omega (arith, leb-true n (m - 1) e))
+below : (n m : ℕ) → nat_le n (m - 1) ≡ true → 0 < m → n < m
+below n m e some = omega (arith, leb-true n (m - 1) e)
 
-pub attempt_fits : (word : List ℕ) → number_fault 0 (2 ^ 60 - 1) (number word) ≡ None → nat_lt (value word) (2 ^ 60) ≡ true
+pub attempt_fits : (word : List ℕ) → number_fault 0 (2 ^ 60 - 1) (number word) ≡ None → value word < 2 ^ 60
 attempt_fits word e = below (value word) (2 ^ 60) (number_below 0 (2 ^ 60 - 1) word e) (lit< tt)
 
 pub address_fits : (word : List ℕ) → address_fault (address word) ≡ None → is_address (address_value word) ≡ true
@@ -68,18 +72,18 @@ unit_fits said word e =
     none_unless (is_unit said (address_value word)) (none_of_both (address_fault (address word)) (unless_true (is_unit said (address_value word))) e).1
 
 -- a step that is named without a fault
-step_plays : (name : Option StepName) (said : Said) (rest : List (List ℕ)) → unless_true (is_some name) ≡ None → Fits said (step_slots name) rest → is_playable (step_of name rest) ≡ true
+step_plays : (name : Option StepName) (said : Said) (rest : List (List ℕ)) → unless_true (is_some name) ≡ None → Fits said (step_slots name) rest → IsPlayableStep (step_of name rest)
 step_plays None said rest e f = absurd (cc)
 step_plays (Some names.Submit) said [] e f = absurd f
 step_plays (Some names.Submit) said (lane ∷ rest) e f = number_zero lane f.0
-step_plays (Some names.Send) said rest e f = refl
-step_plays (Some names.Work) said rest e f = refl
+step_plays (Some names.Send) said rest e f = tt
+step_plays (Some names.Work) said rest e f = tt
 step_plays (Some names.Own) said [] e f = absurd f
 step_plays (Some names.Own) said (attempt ∷ rest) e f = attempt_fits attempt f.0
 step_plays (Some names.Settle) said [] e f = absurd f
 step_plays (Some names.Settle) said (attempt ∷ rest) e f = attempt_fits attempt f.0
-step_plays (Some names.Tick) said rest e f = refl
+step_plays (Some names.Tick) said rest e f = tt
 
-pub step_fits : (said : Said) (words : List (List ℕ)) → Fits said (AnyStep ∷ []) words → is_playable (step_in words) ≡ true
+pub step_fits : (said : Said) (words : List (List ℕ)) → Fits said (AnyStep ∷ []) words → IsPlayableStep (step_in words)
 step_fits said [] f = absurd f
 step_fits said (word ∷ rest) f = step_plays (step_name word) said rest f.0 f.1

@@ -1,6 +1,6 @@
 -- What a good script says keeps the limits.
-use Rattle.std.proofs.Common.{◌≡◌, ℕ, ◌+◌, Bool, true, false, ◌&&◌, ◌||◌, List, [], ◌∷◌, length, Option, Some, None, Result, Ok, Err, refl, ◌∙◌, subst, arith, inl, inr}
-use Rattle.std.specs.Prelude.{◌==◌, nat_lt, nat_le, is_some, is_none}
+use Rattle.std.proofs.Common.{◌≡◌, ℕ, ◌+◌, Bool, true, false, ◌&&◌, ◌||◌, List, [], ◌∷◌, length, Option, Some, None, Result, Ok, Err, refl, ◌∙◌, subst, arith, inl, inr, ◌++◌}
+use Rattle.std.specs.Prelude.{All, ◌==◌, nat_lt, nat_le, is_some, is_none}
 use Rattle.std.specs.List.{list_all}
 use Rattle.std.proofs.lemmas.Bool.{cases_Bool, and_from, and_parts, le-leb, eqb-true}
 use Rattle.std.proofs.lemmas.List.Folds.{list_all-append}
@@ -19,9 +19,13 @@ use Rattle.script_text.specs.declared.words.Keyword.TheVariants as lines
 use Rattle.mid_base.specs.Address.{same_dev}
 use Rattle.script_text.specs.Pieces.{value, words, is_last, lines as lines_of}
 use Rattle.script_text.specs.Fed.{counted}
-use Rattle.script_text.specs.Said.{Said, passes, nothing, keyword, expects, slots, first_fault, adds, address_value, step_in, test_unit_ready}
+use Rattle.script_text.specs.Said.{Said, passes, nothing, expects}
+use Rattle.script_text.specs.Keywords.{keyword}
+use Rattle.script_text.specs.Slots.{slots, first_fault}
+use Rattle.script_text.specs.Adds.{adds, step_in, test_unit_ready}
+use Rattle.script_text.specs.Words.{address_value}
 use Rattle.script_text.specs.Script.{unless, judge_rest, judge, host_spec, whole_of, after_line, judge_lines, script_of}
-use Rattle.script_text.specs.Playable.{is_plain_unit, is_plain_command, is_playable, IsPlayableHost, IsPlayable}
+use Rattle.script_text.specs.Playable.{IsPlainUnit, IsPlainCommand, IsPlayableHost, IsPlayableStep, IsStepOf, IsPlayable}
 use Rattle.script_text.proofs.Fitting.{Fits, fits, number_fits, number_below, number_zero, address_fits, host_fits, unit_fits, step_fits}
 
 abbrev HostKeeps : Option HostLine → Type 0
@@ -30,32 +34,36 @@ HostKeeps (Some h) = (nat_le h.no.0 63 ≡ true) × (is_between 1 1024 h.can_que
 
 abbrev UnitKeeps : Option LunSpec → Type 0
 UnitKeeps None = Unit {0}
-UnitKeeps (Some l) = (is_lun l ≡ true) × (is_plain_unit l ≡ true)
+UnitKeeps (Some l) = (is_lun l ≡ true) × IsPlainUnit l
 
 -- no command stands before its unit
 abbrev CommandKeeps : Option LunSpec → Option CmdSpec → Type 0
 CommandKeeps l None = Unit {0}
 CommandKeeps None (Some k) = ⊥
-CommandKeeps (Some l) (Some k) = (is_command (l ∷ []) k ≡ true) × (is_plain_command k ≡ true)
+CommandKeeps (Some l) (Some k) = (is_command (l ∷ []) k ≡ true) × IsPlainCommand k
 
 -- no step stands before its host
-abbrev step_keeps : Option HostLine → ℕ × HostNo × Step → Bool
-step_keeps None s = false
-step_keeps (Some h) s = ((h.no.0 == s.1.0) || false) && is_playable s.2
+abbrev StepKeeps : Option HostLine → ℕ × HostNo × Step → Type 0
+StepKeeps None s = ⊥
+StepKeeps (Some h) s = (((h.no.0 == s.1.0) || false) ≡ true) × IsPlayableStep s.2
+
+abbrev StepsKeep : Option HostLine → List (ℕ × HostNo × Step) → Type 0
+StepsKeep h [] = Unit {0}
+StepsKeep h (s ∷ steps) = StepKeeps h s × StepsKeep h steps
 
 -- what the lines so far say is within the limits
 record Keeps (said : Said) : Type 0 where
   host : HostKeeps said.host
   lun : UnitKeeps said.lun
   command : CommandKeeps said.lun said.command
-  steps : list_all (step_keeps said.host) said.steps ≡ true
+  steps : StepsKeep said.host said.steps
 
 both : {x y : Bool} → x ≡ true → y ≡ true → (x && y) ≡ true
 both {x} {y} e f = and_from x y e f
 
-no_steps : (steps : List (ℕ × HostNo × Step)) (h : Option HostLine) → list_all (step_keeps None) steps ≡ true → list_all (step_keeps h) steps ≡ true
-no_steps [] h e = refl
-no_steps (s ∷ steps) h e = absurd (cc)
+no_steps : (steps : List (ℕ × HostNo × Step)) (h : Option HostLine) → StepsKeep None steps → StepsKeep h steps
+no_steps [] h e = tt
+no_steps (s ∷ steps) h e = absurd e.0
 
 after_host : (n : ℕ) (said : Said) (ws : List (List ℕ)) → Keeps said → said.host ≡ None → Fits said (slots lines.HostLine) ws → Keeps (adds n said lines.HostLine ws)
 after_host n said [] k e f = absurd f
@@ -66,7 +74,7 @@ after_host n said (a ∷ b ∷ c ∷ []) k e f =
       host = (number_below 0 63 a f.0, number_fits 1 1024 b f.1.0);
       lun = k.lun;
       command = k.command;
-      steps = no_steps said.steps (adds n said lines.HostLine (a ∷ b ∷ c ∷ [])).host (subst (λ (h : Option HostLine). list_all (step_keeps h) said.steps ≡ true) e k.steps);
+      steps = no_steps said.steps (adds n said lines.HostLine (a ∷ b ∷ c ∷ [])).host (subst (λ (h : Option HostLine). StepsKeep h said.steps) e k.steps);
     }
 after_host n said (a ∷ b ∷ c ∷ d ∷ ws) k e f = absurd f.1.1.1
 
@@ -82,7 +90,7 @@ after_lun n said (a ∷ b ∷ c ∷ []) k e f = absurd f.1.1.1
 after_lun n said (a ∷ b ∷ c ∷ d ∷ []) k e f =
     record {
       host = k.host;
-      lun = (both (both (address_fits b f.1.0) (number_fits 1 4294967295 c f.1.1.0)) (number_fits 1 1024 d f.1.1.1.0), refl);
+      lun = (both (both (address_fits b f.1.0) (number_fits 1 4294967295 c f.1.1.0)) (number_fits 1 1024 d f.1.1.1.0), record { running = refl; started = refl; writable = refl });
       command = no_command said.command (adds n said lines.LunLine (a ∷ b ∷ c ∷ d ∷ [])).lun (subst (λ (l : Option LunSpec). CommandKeeps l said.command) e k.command);
       steps = k.steps;
     }
@@ -91,13 +99,13 @@ after_lun n said (a ∷ b ∷ c ∷ d ∷ g ∷ ws) k e f = absurd f.1.1.1.1
 or_false : (b : Bool) → b ≡ true → (b || false) ≡ true
 or_false b e = rw e refl
 
-command_keeps : (lun : Option LunSpec) (k : CmdSpec) → passes (λ l. same_dev l.dev k.dev) lun ≡ true → is_between 1 4294967295 k.id.0 ≡ true → nat_le k.lane.0 63 ≡ true → is_between 1 10000 k.timeout ≡ true → nat_le k.allowed 20 ≡ true → is_plain_command k ≡ true → CommandKeeps lun (Some k)
+command_keeps : (lun : Option LunSpec) (k : CmdSpec) → passes (λ l. same_dev l.dev k.dev) lun ≡ true → is_between 1 4294967295 k.id.0 ≡ true → nat_le k.lane.0 63 ≡ true → is_between 1 10000 k.timeout ≡ true → nat_le k.allowed 20 ≡ true → IsPlainCommand k → CommandKeeps lun (Some k)
 command_keeps None k unit id lane timeout allowed plain = absurd (cc)
 command_keeps (Some l) k unit id lane timeout allowed plain =
     (both (both (both (both (or_false (same_dev l.dev k.dev) unit) id) lane) timeout) allowed, plain)
 
-low_lane : (n : ℕ) → (n == 0) ≡ true → nat_le n 63 ≡ true
-low_lane n e = le-leb n 63 (omega (arith, eqb-true n 0 e))
+low_lane : (n : ℕ) → n ≡ 0 → nat_le n 63 ≡ true
+low_lane n e = le-leb n 63 (omega arith)
 
 after_command : (n : ℕ) (said : Said) (ws : List (List ℕ)) → Keeps said → Fits said (slots lines.CommandLine) ws → Keeps (adds n said lines.CommandLine ws)
 after_command n said [] k f = absurd f
@@ -113,13 +121,17 @@ after_command n said (a ∷ b ∷ c ∷ d ∷ g ∷ h ∷ ws) k f =
       command =
           command_keeps said.lun (record { id = record { 0 = value a }; lane = record { 0 = value c }; dev = address_value d; cdb = test_unit_ready; fill = 0; timeout = value g; allowed = value h; failfast = false })
           (unit_fits said d f.1.1.1.0) (number_fits 1 4294967295 a f.0) (low_lane (value c) (number_zero c f.1.1.0))
-          (number_fits 1 10000 g f.1.1.1.1.0) (number_below 0 20 h f.1.1.1.1.1.0) (both (both (number_zero c f.1.1.0) refl) refl);
+          (number_fits 1 10000 g f.1.1.1.1.0) (number_below 0 20 h f.1.1.1.1.1.0) (record { lane = number_zero c f.1.1.0; cdb = refl; retries = refl });
       steps = k.steps;
     }
 
-step_keeps_it : (host : Option HostLine) (s : ℕ × HostNo × Step) → passes (λ h. h.no.0 == s.1.0) host ≡ true → is_playable s.2 ≡ true → step_keeps host s ≡ true
-step_keeps_it None s own plays = absurd (cc)
-step_keeps_it (Some h) s own plays = both (or_false (h.no.0 == s.1.0) own) plays
+step_keeps : (host : Option HostLine) (s : ℕ × HostNo × Step) → passes (λ h. h.no.0 == s.1.0) host ≡ true → IsPlayableStep s.2 → StepKeeps host s
+step_keeps None s own plays = absurd (cc)
+step_keeps (Some h) s own plays = (or_false (h.no.0 == s.1.0) own, plays)
+
+one_step_more : (host : Option HostLine) (steps : List (ℕ × HostNo × Step)) (s : ℕ × HostNo × Step) → StepsKeep host steps → StepKeeps host s → StepsKeep host (steps ++ s ∷ [])
+one_step_more host [] s all one = (one, tt)
+one_step_more host (t ∷ steps) s all one = (all.0, one_step_more host steps s all.1 one)
 
 after_step : (n : ℕ) (said : Said) (ws : List (List ℕ)) → Keeps said → Fits said (slots lines.StepLine) ws → Keeps (adds n said lines.StepLine ws)
 after_step n said [] k f = absurd f
@@ -129,9 +141,7 @@ after_step n said (a ∷ ws) k f =
       host = k.host;
       lun = k.lun;
       command = k.command;
-      steps =
-          list_all-append (step_keeps said.host) said.steps (s ∷ [])
-          ∙ both k.steps (both (step_keeps_it said.host s (host_fits said a f.0) (step_fits said ws f.1)) refl);
+      steps = one_step_more said.host said.steps s k.steps (step_keeps said.host s (host_fits said a f.0) (step_fits said ws f.1));
     }
 
 none_is : {V : Type 0} (o : Option V) → is_none o ≡ true → o ≡ None
@@ -181,14 +191,18 @@ playable_host h l k host lun command =
         plan = refl;
       };
       one_unit = refl;
-      units = both lun.1 refl;
+      units = All-cons IsPlainUnit l [] lun.1 (All-nil IsPlainUnit);
       one_command = refl;
-      commands = both command.1 refl;
+      commands = All-cons IsPlainCommand k [] command.1 (All-nil IsPlainCommand);
       no_plan = refl;
       aborts = refl;
     }
 
-whole_plays : (n : ℕ) (host : Option HostLine) (lun : Option LunSpec) (command : Option CmdSpec) (ended : Bool) (steps : List (ℕ × HostNo × Step)) (s : Script) → HostKeeps host → UnitKeeps lun → CommandKeeps lun command → list_all (step_keeps host) steps ≡ true → whole_of n host lun command ended steps ≡ Ok s → IsPlayable s
+steps_play : (h : HostLine) (l : LunSpec) (k : CmdSpec) (steps : List (ℕ × HostNo × Step)) → StepsKeep (Some h) steps → All (IsStepOf (host_spec h l k ∷ [])) steps
+steps_play h l k [] all = All-nil (IsStepOf (host_spec h l k ∷ []))
+steps_play h l k (s ∷ steps) all = All-cons (IsStepOf (host_spec h l k ∷ [])) s steps (record { host = all.0.0; step = all.0.1 }) (steps_play h l k steps all.1)
+
+whole_plays : (n : ℕ) (host : Option HostLine) (lun : Option LunSpec) (command : Option CmdSpec) (ended : Bool) (steps : List (ℕ × HostNo × Step)) (s : Script) → HostKeeps host → UnitKeeps lun → CommandKeeps lun command → StepsKeep host steps → whole_of n host lun command ended steps ≡ Ok s → IsPlayable s
 whole_plays n None lun command ended steps s hk lk ck sk e = absurd (cc)
 whole_plays n (Some h) None command ended steps s hk lk ck sk e = absurd (cc)
 whole_plays n (Some h) (Some l) None ended steps s hk lk ck sk e = absurd (cc)
@@ -199,7 +213,7 @@ whole_plays n (Some h) (Some l) (Some k) true steps s hk lk ck sk e =
     (record {
       one_host = refl;
       hosts = All-cons IsPlayableHost (host_spec h l k) [] (playable_host h l k hk lk ck) (All-nil IsPlayableHost);
-      steps = sk;
+      steps = steps_play h l k steps sk;
       no_scan = refl;
       no_budget = refl;
       no_drain = refl;
@@ -224,4 +238,4 @@ lines_play is_cut n said (line ∷ ls) s keeps e =
 -- what a good script says can be played
 pub script_plays : (text : List ℕ) (s : Script) → script_of text ≡ Ok s → IsPlayable s
 unfolding script_of
-script_plays text s e = lines_play (nat_lt 16777216 (length text)) 1 nothing (lines_of (counted text)) s (record { host = tt; lun = tt; command = tt; steps = refl }) e
+script_plays text s e = lines_play (nat_lt 16777216 (length text)) 1 nothing (lines_of (counted text)) s (record { host = tt; lun = tt; command = tt; steps = tt }) e

@@ -1,7 +1,6 @@
 -- What whoever plays a good script may rely on.
-use Rattle.std.specs.Prelude.{◌≡◌, ℕ, ◌==◌, ◌^◌, nat_lt, Bool, true, false, not, ◌&&◌, List, [], length, replicate, None, All}
-use Rattle.std.specs.List.{list_any, list_all}
-use Rattle.std.specs.Str.{bytes_eq}
+use Rattle.std.specs.Prelude.{◌≡◌, ℕ, ◌==◌, ◌^◌, ◌<◌, true, false, List, [], length, replicate, None, All}
+use Rattle.std.specs.List.{list_any}
 use Rattle.mid_base.specs.Bytes.{cdb_list}
 use Rattle.mid_base.specs.Limits.{KeepsLimits}
 use Rattle.mid_base.specs.declared.answers.By.TheVariants as owners
@@ -9,52 +8,52 @@ use Rattle.mid_base.specs.declared.host_spec.LunSpec.{LunSpec}
 use Rattle.mid_base.specs.declared.host_spec.CmdSpec.{CmdSpec}
 use Rattle.mid_base.specs.declared.host_spec.HostSpec.{HostSpec}
 use Rattle.mid_base.specs.declared.names.HostNo.{HostNo}
-use Rattle.mid_base.specs.declared.states.DeviceState.{DeviceState}
 use Rattle.mid_base.specs.declared.states.DeviceState.TheVariants.{Running}
 use Rattle.mid_base.specs.declared.steps.Step.{Step}
 use Rattle.mid_base.specs.declared.steps.Step.TheVariants.{Submit, Send, Work, Own, Settle, Tick}
 use Rattle.script_text.specs.declared.script.Script.{Script}
 
-abbrev pub is_running : DeviceState → Bool
-is_running Running = true
-is_running _ = false
-
--- a started unit that may be written, whose device is running
-abbrev pub is_plain_unit : LunSpec → Bool
-is_plain_unit l = is_running l.start && not l.stopped && not l.read_only
+-- a unit whose device is running, that is started and that may be written
+pub record IsPlainUnit (l : LunSpec) : Type 0 where
+  pub running : l.start ≡ Running
+  pub started : l.stopped ≡ false
+  pub writable : l.read_only ≡ false
 
 -- TEST UNIT READY in lane 0
-abbrev pub is_plain_command : CmdSpec → Bool
-is_plain_command k = (k.lane.0 == 0) && bytes_eq (cdb_list k.cdb) (replicate 6 0) && not k.failfast
+pub record IsPlainCommand (k : CmdSpec) : Type 0 where
+  pub lane : k.lane.0 ≡ 0
+  pub cdb : cdb_list k.cdb ≡ replicate 6 0
+  pub retries : k.failfast ≡ false
 
 -- a host within the limits, with one unit and one command
 pub record IsPlayableHost (h : HostSpec) : Type 0 where
   pub limits : KeepsLimits h
   pub one_unit : length h.luns ≡ 1
-  pub units : list_all is_plain_unit h.luns ≡ true
+  pub units : All IsPlainUnit h.luns
   pub one_command : length h.cmds ≡ 1
-  pub commands : list_all is_plain_command h.cmds ≡ true
+  pub commands : All IsPlainCommand h.cmds
   pub no_plan : h.plan ≡ []
   pub aborts : h.no_async_abort ≡ false
 
 -- a step of a kind that a script may name
-abbrev pub is_playable : Step → Bool
-is_playable (Submit lane) = lane.0 == 0
-is_playable Send = true
-is_playable Work = true
-is_playable (Own n owners.Answer) = nat_lt n.0 (2 ^ 60)
-is_playable (Settle n) = nat_lt n.0 (2 ^ 60)
-is_playable Tick = true
-is_playable _ = false
+abbrev pub IsPlayableStep : Step → Type 0
+IsPlayableStep (Submit lane) = lane.0 ≡ 0
+IsPlayableStep Send = Unit {0}
+IsPlayableStep Work = Unit {0}
+IsPlayableStep (Own n owners.Answer) = n.0 < 2 ^ 60
+IsPlayableStep (Settle n) = n.0 < 2 ^ 60
+IsPlayableStep Tick = Unit {0}
+IsPlayableStep _ = ⊥
 
--- the step is of one of these hosts
-abbrev pub is_step_of : List HostSpec → ℕ × HostNo × Step → Bool
-is_step_of hosts s = list_any (λ h. h.no.0 == s.1.0) hosts && is_playable s.2
+-- the step of a line is of one of these hosts
+pub record IsStepOf (hosts : List HostSpec) (s : ℕ × HostNo × Step) : Type 0 where
+  pub host : list_any (λ h. h.no.0 == s.1.0) hosts ≡ true
+  pub step : IsPlayableStep s.2
 
 pub record IsPlayable (s : Script) : Type 0 where
   pub one_host : length s.hosts ≡ 1
   pub hosts : All IsPlayableHost s.hosts
-  pub steps : list_all (is_step_of s.hosts) s.steps ≡ true
+  pub steps : All (IsStepOf s.hosts) s.steps
   pub no_scan : s.scans ≡ []
   pub no_budget : s.budget ≡ None
   pub no_drain : s.drain ≡ false
