@@ -1,6 +1,6 @@
 -- How the first line, and the first part, is cut off.
-use Rattle.std.proofs.Common.{◌≡◌, ◌==◌, ℕ, zero, suc, ◌+◌, ◌<◌, ◌≤◌, Bool, true, false, not, cond, List, [], ◌∷◌, ◌++◌, length, take, drop, take_while, refl, sym, ap, ◌∙◌, arith, inl, inr, add-one, one-add, length-take}
-use Rattle.std.specs.List.{prefix_len, onto_first, slice_split, position_or_len, before_first, after_first}
+use Rattle.std.proofs.Common.{◌≡◌, ◌==◌, ℕ, zero, suc, ◌+◌, ◌<◌, ◌≤◌, Bool, true, false, not, cond, List, [], ◌∷◌, length, take, drop, take_while, refl, sym, ap, ◌∙◌, arith, inl, inr, add-one, one-add, length-take}
+use Rattle.std.specs.List.{prefix_len, onto_first, slice_split, position_or_len}
 use Rattle.std.proofs.lemmas.List.Sums.{prefix_len-le-length}
 use Rattle.std.proofs.lemmas.List.Splits.{slice_split_first}
 use Rattle.std.proofs.lemmas.Bool.{cases_Bool}

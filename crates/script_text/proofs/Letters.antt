@@ -1,5 +1,5 @@
 -- The letters of the callbacks.
-use Rattle.std.proofs.Common.{◌≡◌, ℕ, ◌<◌, List, [], ◌∷◌, Option, None, length, refl, arith}
+use Rattle.std.proofs.Common.{◌≡◌, ℕ, ◌<◌, List, [], ◌∷◌, None, length, refl, arith}
 use Rattle.script_text.specs.Words.{bits_from}
 
 -- where no letter is left, no byte may be

@@ -13,7 +13,9 @@ use Rattle.script_text.specs.declared.kind.LineFault.{LineFault}
 use Rattle.script_text.specs.declared.kind.LineFault.TheVariants as faults
 use Rattle.script_text.specs.Pieces.{number}
 use Rattle.script_text.specs.Words.{handlers, address}
-use Rattle.script_text.specs.Said.{Said, Slot, AnyStep, KnownHost, KnownUnit, number_fault, address_fault, slot_fault, first_fault, step_in}
+use Rattle.script_text.specs.Said.{Said}
+use Rattle.script_text.specs.Slots.{AnyStep, KnownHost, KnownUnit, number_fault, address_fault, slot_fault, first_fault}
+use Rattle.script_text.specs.Adds.{step_in}
 
 -- what a draft holds, without where it lies in memory
 abbrev pub seen : Draft → Said

@@ -13,7 +13,10 @@ use Rattle.script_text.specs.declared.script.Script.{Script}
 use Rattle.script_text.specs.declared.script.Bad.{Bad}
 use Rattle.script_text.specs.Fed.{counted}
 use Rattle.script_text.specs.Pieces.{lines, words, is_last}
-use Rattle.script_text.specs.Said.{Said, nothing, keyword, expects, slots, unless_true, or_else, first_fault, adds}
+use Rattle.script_text.specs.Said.{Said, nothing, expects}
+use Rattle.script_text.specs.Keywords.{keyword}
+use Rattle.script_text.specs.Slots.{slots, first_fault}
+use Rattle.script_text.specs.Adds.{adds}
 
 abbrev pub kind_number : Kind → ℕ
 kind_number kinds.Word = 1

@@ -1,5 +1,5 @@
 -- What single words of a script say: the letters of the callbacks, and addresses.
-use Rattle.std.specs.Prelude.{ℕ, ◌==◌, Bool, if◌then◌else◌, List, [], ◌∷◌, map, Option, Some, None, option_map, unwrap_or, codes, bit_or}
+use Rattle.std.specs.Prelude.{ℕ, ◌==◌, if◌then◌else◌, List, [], ◌∷◌, map, Option, Some, None, option_map, unwrap_or, codes, bit_or}
 use Rattle.std.specs.Str.{bytes_eq}
 use Rattle.mid_base.specs.declared.names.DevAddr.{DevAddr}
 use Rattle.mid_base.specs.declared.host_spec.Handlers.{Handlers}
@@ -34,3 +34,10 @@ address_of _ = None
 -- three numbers between colons
 unfoldable pub address : List ℕ → Option DevAddr
 address word = address_of (map number (parts 58 word))
+
+-- the callbacks of a word that names them, and the address of one that is one
+abbrev pub handlers_value : List ℕ → Handlers
+handlers_value word = unwrap_or (handlers word) (with_bits 0)
+
+abbrev pub address_value : List ℕ → DevAddr
+address_value word = unwrap_or (address word) (record { channel = 0; target = 0; lun = 0 })

@@ -37,7 +37,7 @@ impl Draft {
         }
     }
 
-    /// Whether a line of this kind may come now.
+    /// Whether a line of this kind has to come now, or may.
     pub fn expects(&self, keyword: Keyword) -> bool
         ensures { result ≡ expects (seen self.now) keyword }
     {

@@ -4,14 +4,14 @@ ghost use Rattle.script_text.specs.Script.{kind_number};
 /// Why a line is bad.
 #[derive(Clone, Copy, PartialEq, Eq, Debug)]
 pub enum Kind {
-    /// A word that may not stand there, a word that lacks or a word too many.
+    /// It isn't what it has to be there: a word is wrong, lacks or is too many, or the whole line lacks.
     Word,
-    /// The line has a byte behind the longest text.
+    /// It has the byte behind the longest script.
     Limit,
 }
 
 impl Kind {
-    /// Its number in `Bad`.
+    /// Its number, as `Bad` has it.
     pub fn number(self) -> u8
         ensures { result ≡ kind_number self }
     {
@@ -22,7 +22,7 @@ impl Kind {
     }
 }
 
-/// Why a line is not taken.
+/// Why a line was not taken: it is bad, or an allocation failed.
 #[derive(Clone, Copy, PartialEq, Eq, Debug)]
 pub enum LineFault {
     Bad(Kind),

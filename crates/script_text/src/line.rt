@@ -1,6 +1,6 @@
 ghost use Rattle.std.specs.Prelude.{◌≡◌, ℕ};
 ghost use Rattle.script_text.specs.Pieces.{parts_left, words};
-ghost use Rattle.script_text.specs.Said.{test_unit_ready};
+ghost use Rattle.script_text.specs.Adds.{test_unit_ready};
 ghost use Rattle.script_text.specs.Script.{judge, judge_slots};
 ghost use Rattle.script_text.specs.Gives.{seen, Judges};
 ghost use Rattle.script_text.specs.declared.words.Keyword.TheVariants.{HostLine, LunLine, CommandLine, StepLine, EndLine};
@@ -15,7 +15,7 @@ use crate::steps::step_in;
 use crate::words::{Keyword, keyword_of};
 use mid_base::{CdbBytes, CmdId, CmdSpec, DeviceState, HostNo, LaneNo, LunSpec};
 
-/// Adds what line number `number` says.
+/// Adds what this line says, which has the number `number`.
 #[tactic(auto, unfolding(crate::specs::Script::judge))]
 pub fn take_line(draft: &mut Draft, number: u64, line: &[u8]) -> Result<(), LineFault>
     ensures { Judges (seen draft.new) result (judge number (seen draft.old) (words line.now)) }
@@ -78,7 +78,7 @@ fn lun_line(draft: &mut Draft, rest: Parts) -> Result<(), LineFault>
     Ok(())
 }
 
-/// TEST UNIT READY (SPC-4, 6.47): six bytes, all zero.
+/// TEST UNIT READY (SPC-4, TEST UNIT READY command): six bytes, all zero.
 #[tactic(auto, using(mid_base::proofs::Same::same_cdb))]
 fn test_unit_ready() -> CdbBytes
     ensures { result ≡ test_unit_ready }

@@ -23,6 +23,7 @@ fn bad(line: u64, kind: Kind) -> ReadEnd
     })
 }
 
+/// A single row.
 fn one_row<T: Drop>(alloc: Global, item: T) -> Result<Rows<T>, ReadEnd>
     ensures { MatchResult result (λ rows. rows ≡ item ∷ []) (λ end. end ≡ ReadEnd.NoMemory) }
 {
@@ -33,7 +34,7 @@ fn one_row<T: Drop>(alloc: Global, item: T) -> Result<Rows<T>, ReadEnd>
     }
 }
 
-/// What the lines of a draft say, where line `line` would be the next. They have to be all that a script needs.
+/// The script of these lines, where `line` is the number of the next one. It is bad where a line lacks.
 fn whole(alloc: Global, draft: Draft, line: u64) -> Result<Script, ReadEnd>
     ensures { Answers (whole line (seen draft)) result }
 {
@@ -68,7 +69,7 @@ fn whole(alloc: Global, draft: Draft, line: u64) -> Result<Script, ReadEnd>
     })
 }
 
-/// Reads the part of a text that counts.
+/// Reads a text, of which no byte behind number 16,777,217 is given.
 #[tactic(auto, using(crate::proofs::Cuts::lines_few, crate::proofs::Counted::judged_whole), unfolding(crate::specs::Script::judge_lines))]
 pub fn read(alloc: Global, text: &[u8]) -> Result<Script, ReadEnd>
     requires { length text.now ≤ 16777217 }

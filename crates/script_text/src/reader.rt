@@ -4,9 +4,9 @@ use mid_base::NoMemory;
 use std::alloc::Global;
 use std::marker::Model;
 
-/// Takes a script in pieces, cut anywhere.
+/// Takes a script in pieces, which may be cut anywhere, and then says what all of it says.
 ///
-/// It keeps 16,777,217 bytes at most: the line that has the last of these is bad, and nothing behind it matters.
+/// It keeps 16,777,217 bytes: the line that has the last of these is bad, so what comes behind it doesn't matter.
 #[derive(Drop)]
 pub struct Reader {
     text: Vec<u8>,
@@ -26,9 +26,10 @@ impl Model for Reader {
 }
 
 impl Reader {
-    ghost use Rattle.std.specs.Prelude.{◌≡◌, OnOk, OnErr, IsErr, true, false, Err};
+    ghost use Rattle.std.specs.Prelude.{◌≡◌, OnOk, OnErr, IsErr, IfOk, true, false, Err};
     ghost use Rattle.script_text.specs.Fed.{unfed, fed};
     ghost use Rattle.script_text.specs.Reads.{Reads};
+    ghost use Rattle.script_text.specs.Playable.{IsPlayable};
 
     /// A reader of no bytes so far.
     pub fn new(alloc: Global) -> Reader
@@ -41,7 +42,7 @@ impl Reader {
         }
     }
 
-    /// Takes the next piece. After want of memory each later call fails too, and so does `finish`.
+    /// Takes the next piece. Where an allocation fails, each later call fails too, and so does `finish`.
     #[tactic(auto, using(crate::proofs::Counted::counted_end))]
     pub fn feed(&mut self, piece: &[u8]) -> Result<(), NoMemory>
         ensures ok { OnOk result ((self.old.failed ≡ false) × (self.new ≡ fed self.old piece.now)) }
@@ -62,9 +63,11 @@ impl Reader {
         }
     }
 
-    /// What all the bytes say that were fed.
+    /// What the bytes say that were fed: a script that can be played, or the first bad line.
+    #[tactic(auto, using(crate::proofs::Sound::script_plays))]
     pub fn finish(self) -> Result<Script, ReadEnd>
         ensures read { Reads self.text result }
+        ensures playable { IfOk result IsPlayable }
         ensures failed { self.failed ≡ true → result ≡ Err ReadEnd.NoMemory }
     {
         let Reader {

@@ -1,3 +1,4 @@
+// What a single word has to be at its place. Each takes the next word of the line, None where the line is over.
 ghost use Rattle.std.specs.Prelude.{◌≡◌, None, Some, is_none};
 ghost use Rattle.std.specs.Str.{bytes_eq};
 ghost use Rattle.mid_base.specs.Address.{same_dev};

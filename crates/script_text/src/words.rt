@@ -1,7 +1,7 @@
 ghost use Rattle.std.specs.Prelude.{◌≡◌};
-ghost use Rattle.script_text.specs.Said.{keyword, step_name};
+ghost use Rattle.script_text.specs.Keywords.{keyword, step_name};
 
-/// The first word of a line.
+/// The kinds of lines, which their first words tell.
 #[derive(Clone, Copy, PartialEq, Eq, Debug)]
 pub enum Keyword {
     HostLine,
@@ -11,7 +11,7 @@ pub enum Keyword {
     EndLine,
 }
 
-/// The word that names a step.
+/// The kinds of steps that a script may name.
 #[derive(Clone, Copy, PartialEq, Eq, Debug)]
 pub enum StepName {
     Submit,
@@ -22,7 +22,8 @@ pub enum StepName {
     Tick,
 }
 
-#[tactic(auto, unfolding(crate::specs::Said::keyword))]
+/// The kind of line that begins with this word.
+#[tactic(auto, unfolding(crate::specs::Keywords::keyword))]
 pub fn keyword_of(word: &[u8]) -> Option<Keyword>
     ensures { result ≡ keyword word.now }
 {
@@ -44,7 +45,8 @@ pub fn keyword_of(word: &[u8]) -> Option<Keyword>
     None
 }
 
-#[tactic(auto, unfolding(crate::specs::Said::step_name))]
+/// The kind of step that this word names.
+#[tactic(auto, unfolding(crate::specs::Keywords::step_name))]
 pub fn step_name_of(word: &[u8]) -> Option<StepName>
     ensures { result ≡ step_name word.now }
 {
