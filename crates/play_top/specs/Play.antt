@@ -1,13 +1,13 @@
 -- What a run of the program did.
 use Rattle.std.specs.Prelude.{ℕ, ◌⊎◌, List, [], Option, Ok, Err}
-use Rattle.std.specs.Io.KnownBytes.{Appends, IsAtEnd}
+use Rattle.std.specs.Io.KnownBytes.{Appends}
 use Rattle.mid_base.specs.declared.entries.Entry.{Entry}
 use Rattle.mid_base.specs.declared.steps.Why.{Why}
 use Rattle.mid_base.specs.declared.host_spec.HostSpec.{HostSpec}
 use Rattle.mid_io.specs.Whole.{IsCutShort}
 use Rattle.script_text.specs.declared.script.Script.{Script}
 use Rattle.script_text.specs.declared.script.Bad.{Bad}
-use Rattle.play_top.specs.Reading.{Says}
+use Rattle.play_top.specs.Reading.{Says, IsReadOut}
 use Rattle.play_top.specs.Played.{Ran}
 use Rattle.play_top.specs.Texts.{played_text, bad_text}
 
@@ -15,7 +15,7 @@ use Rattle.play_top.specs.Texts.{played_text, bad_text}
 pub record IsGoodRun (left left_new old new : Option (List ℕ)) : Type 0 where
   pub script : Script
   pub says : Says left (Ok script)
-  pub ended : IsAtEnd left_new
+  pub ended : IsReadOut left left_new
   pub spec : HostSpec
   pub journal : List Entry
   pub skips : List (ℕ × Why)

@@ -1,6 +1,5 @@
 -- How the step lines of a script make a journal. P and Q have the newest entry first.
-use Rattle.std.specs.Prelude.{◌≡◌, ℕ, Bool, List, [], ◌∷◌, ◌++◌, reverse, Option, None, Some}
-use Rattle.std.specs.List.{list_all}
+use Rattle.std.specs.Prelude.{◌≡◌, ℕ, List, [], ◌∷◌, ◌++◌, reverse, Option, None, Some, All}
 use Rattle.mid_base.specs.declared.names.HostNo.{HostNo}
 use Rattle.mid_base.specs.declared.entries.Entry.{Entry}
 use Rattle.mid_base.specs.declared.steps.Step.{Step}
@@ -11,7 +10,7 @@ use Rattle.trace_model.specs.Legal.{onto}
 use Rattle.trace_model.specs.Steps.{barred}
 use Rattle.fixed_lower.specs.LowerRun.{LowerRun, is_due_after}
 use Rattle.mid_core.specs.Steps.{AddsTo}
-use Rattle.script_text.specs.Playable.{is_playable}
+use Rattle.script_text.specs.Playable.{IsPlayableStep}
 use Rattle.script_text.specs.declared.script.Script.{Script}
 
 -- Q comes from P by a step: it adds a group that begins with an opener of the step, or the step is skipped by its first
@@ -31,8 +30,8 @@ Plays s (t ∷ steps) P Q skips =
     (R : List Entry) × (why : Option Why) × (later : List (ℕ × Why))
     × Comes s P t.2 why R × (skips ≡ skip_of t.0 why ++ later) × Plays s steps R Q later
 
-abbrev pub are_playable : List (ℕ × HostNo × Step) → Bool
-are_playable steps = list_all (λ t. is_playable t.2) steps
+abbrev pub ArePlayable : List (ℕ × HostNo × Step) → Type 0
+ArePlayable steps = All (λ (t : ℕ × HostNo × Step). IsPlayableStep t.2) steps
 
 -- the script's host was run to this journal: its steps make it, it keeps every rule and promise, and the lower layer's part
 -- of it is that of one which answers each attempt GOOD

@@ -18,9 +18,14 @@ abbrev pub Says : Option (List ℕ) → Result Script Bad → Type 0
 Says None judged = (bytes : List ℕ) × (script_of bytes ≡ judged)
 Says (Some bytes) judged = script_of bytes ≡ judged
 
+-- nothing is left of a source that tells its bytes
+abbrev pub IsReadOut : Option (List ℕ) → Option (List ℕ) → Type 0
+IsReadOut None left_new = ⊤
+IsReadOut (Some bytes) left_new = IsAtEnd left_new
+
 -- what was left and is left, the source's faults before and after
 abbrev pub ReadsScript : Option (List ℕ) → Option (List ℕ) → ℕ → ℕ → Result Script Unread → Type 0
-ReadsScript left left_new before now (Ok script) = Says left (Ok script) × IsAtEnd left_new × IsPlayable script
+ReadsScript left left_new before now (Ok script) = Says left (Ok script) × IsReadOut left left_new × IsPlayable script
 ReadsScript left left_new before now (Err (unread.Bad bad)) = Says left (Err bad)
 ReadsScript left left_new before now (Err unread.Fault) = Rose before now
 ReadsScript left left_new before now (Err unread.NoMemory) = ⊤

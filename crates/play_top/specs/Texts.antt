@@ -12,7 +12,7 @@ abbrev pub played_text : HostSpec → List Entry → List (ℕ × Why) → List 
 played_text spec journal skips = text (record { number = spec.no.0; cmds = spec.cmds; journal = journal } ∷ []) skips
 
 abbrev pub bad_text : Bad → List ℕ
-bad_text bad = codes "bad line " ++ decimal bad.line ++ codes " kind " ++ decimal bad.kind ++ codes "\n"
+bad_text bad = codes "bad line " ++ (decimal bad.line ++ (codes " kind " ++ (decimal bad.kind ++ codes "\n")))
 
 abbrev pub usage_text : List ℕ
 usage_text = codes "usage\n"

@@ -1,7 +1,6 @@
-ghost use Rattle.std.specs.Prelude.{◌≡◌, [], ◌∷◌, ◌++◌, true, reverse, IfOk, OnOk};
-ghost use Rattle.std.specs.List.{list_all};
-ghost use Rattle.script_text.specs.Playable.{IsPlayable, IsPlayableHost, is_playable};
-ghost use Rattle.play_top.specs.Played.{Comes, Plays, Ran, are_playable, skip_of};
+ghost use Rattle.std.specs.Prelude.{◌≡◌, [], ◌∷◌, ◌++◌, length, reverse, IfOk, OnOk};
+ghost use Rattle.script_text.specs.Playable.{IsPlayable, IsPlayableStep};
+ghost use Rattle.play_top.specs.Played.{ArePlayable, Comes, Plays, Ran, skip_of};
 
 use fixed_lower::FixedLower;
 use mid_base::{Did, HostNo, HostSpec, NoMemory, Rows, Step, Why};
@@ -22,11 +21,23 @@ pub fn play_script(alloc: Global, script: Script) -> Result<Played, NoMemory>
     ensures { IfOk result (λ played. Ran script played.core.spec played.core.journal played.skips.items) }
 {
     let Script { hosts, steps, .. } = script;
-    let Some(host) = hosts.into_vec().pop() else {
-        unreachable!()
-    };
+    let host = only_host(hosts);
     let core = Core::new(alloc, host, Rows::new(alloc), FixedLower::new(alloc))?;
-    play_steps(alloc, core, steps.as_slice())
+    let played = play_steps(alloc, core, steps.as_slice())?;
+    // Its journal is legal, and the lower layer stands where it leaves it.
+    let _ = played.core.journal();
+    Ok(played)
+}
+
+// The host of a script that has one.
+fn only_host(hosts: Rows<HostSpec>) -> HostSpec
+    requires { length hosts ≡ 1 }
+    ensures { hosts ≡ result ∷ [] }
+{
+    match hosts.into_vec().pop() {
+        Some(host) => host,
+        None => unreachable!(),
+    }
 }
 
 // Makes steps one after the other.
@@ -35,7 +46,7 @@ fn play_steps(
     core: Core<FixedLower>,
     steps: &[(u64, HostNo, Step)],
 ) -> Result<Played, NoMemory>
-    requires { are_playable steps.now ≡ true }
+    requires { ArePlayable steps.now }
     ensures plays { IfOk result (λ played. Plays core.spec steps.now (reverse core.journal) (reverse played.core.journal) played.skips.items) }
     ensures spec { IfOk result (λ played. played.core.spec ≡ core.spec) }
 {
@@ -50,7 +61,7 @@ fn play_steps(
 
 // Makes one step, and says why it was skipped.
 fn make_step(core: &mut Core<FixedLower>, step: Step) -> Result<Option<Why>, NoMemory>
-    requires { is_playable step ≡ true }
+    requires { IsPlayableStep step }
     ensures comes { IfOk result (λ why. Comes core.old.spec (reverse core.old.journal) step why (reverse core.new.journal)) }
     ensures spec { IfOk result (λ why. core.new.spec ≡ core.old.spec) }
 {
