@@ -14,6 +14,7 @@ use mid_io::{Sink, write_all};
 pub enum WriteEnd {
     /// A write failed; the sink's count of faults rose.
     Fault,
+    /// An allocation failed.
     NoMemory,
 }
 

@@ -10,6 +10,7 @@ use mid_base::{CmdSpec, Entry, HostNo, Why};
 use mid_io::Sink;
 use std::alloc::{AllocError, Global};
 
+// The ids of commands, in their order.
 fn ids(alloc: Global, cmds: &[CmdSpec]) -> Result<Vec<u32>, AllocError>
     ensures { IfOk result (λ ids. ids.items ≡ map (λ k. k.id.0) cmds.now) }
 {
@@ -69,8 +70,11 @@ fn write_results<K: Sink>(
     Ok(())
 }
 
-/// Writes the lines of a host: `host H`, a line `TICK TEXT` for each entry of its journal, and a line `result ..` for each
-/// of its commands in ascending ids.
+/// Writes the lines of a host, from `host H` to its last result line. Each line is one piece; what is left of a piece that
+/// is taken in part is offered on.
+///
+/// After `Fault` and after `NoMemory` a front of the text is out. The journal is gone over once for the results, and takes
+/// room for its commands and attempts, not for its lines.
 pub fn write_host<K: Sink>(
     alloc: Global,
     host: HostNo,
@@ -97,8 +101,8 @@ pub fn write_host<K: Sink>(
     write_results(out, &mut line, &ids, &results)
 }
 
-/// Writes the lines that follow the hosts: a line `skipped LINE WHY` for each step line that was skipped, in order, and
-/// the line `end`.
+/// Writes the lines that follow the hosts: a `skipped` line for each step that was skipped, with the number of its line in
+/// the script and the cause, and the line `end`. It writes and ends as `write_host` does.
 pub fn write_skips<K: Sink>(
     alloc: Global,
     skips: &[(u64, Why)],
@@ -115,3 +119,6 @@ pub fn write_skips<K: Sink>(
     }
     put(out, "end\n")
 }
+
+#[cfg(test)]
+mod tests;
