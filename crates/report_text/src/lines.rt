@@ -1,4 +1,4 @@
-ghost use Rattle.std.specs.Prelude.{◌≤◌};
+ghost use Rattle.std.specs.Prelude.{◌≡◌, ◌≤◌, IfErr};
 ghost use Rattle.report_text.specs.Ends.{WritesText};
 ghost use Rattle.report_text.specs.Results.{result_text};
 ghost use Rattle.report_text.specs.Text.{entry_line, host_line, skip_line};
@@ -18,9 +18,10 @@ pub enum WriteEnd {
     NoMemory,
 }
 
-// Writes a line.
+// Writes a line. It takes no memory.
 pub fn put<K: Sink>(out: &mut K, line: &str) -> Result<(), WriteEnd>
     ensures answer { WritesText (K.written out.old) (K.written out.new) line.now (K.faults out.old) (K.faults out.new) result }
+    ensures fault { IfErr result (λ end. end ≡ WriteEnd.Fault) }
     ensures later { K.faults out.old ≤ K.faults out.new }
 {
     match write_all(out, line.as_bytes()) {

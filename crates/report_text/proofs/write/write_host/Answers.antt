@@ -1,4 +1,4 @@
-use Rattle.std.proofs.Common.{refl, reverse, ap, ◌++◌, ◌∙◌, List, ℕ}
+use Rattle.std.proofs.Common.{refl, reverse, ap, ◌++◌, ◌∙◌}
 use Rattle.std.specs.List.{flat_map}
 use Rattle.report_text.specs.Results.{result_line}
 use Rattle.report_text.specs.Tables.{gathered_line}
