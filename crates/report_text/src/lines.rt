@@ -20,7 +20,8 @@ pub enum WriteEnd {
 
 // Writes a line. It takes no memory.
 pub fn put<K: Sink>(out: &mut K, line: &str) -> Result<(), WriteEnd>
-    ensures answer { WritesText (K.written out.old) (K.written out.new) line.now (K.faults out.old) (K.faults out.new) result }
+    ensures answer { WritesText (K.written out.old) (K.written out.new) line.now
+        (K.faults out.old) (K.faults out.new) result }
     ensures fault { IfErr result (λ end. end ≡ WriteEnd.Fault) }
     ensures later { K.faults out.old ≤ K.faults out.new }
 {
@@ -31,7 +32,8 @@ pub fn put<K: Sink>(out: &mut K, line: &str) -> Result<(), WriteEnd>
 }
 
 pub fn put_host<K: Sink>(out: &mut K, line: &mut String, host: HostNo) -> Result<(), WriteEnd>
-    ensures answer { WritesText (K.written out.old) (K.written out.new) (host_line host.0) (K.faults out.old) (K.faults out.new) result }
+    ensures answer { WritesText (K.written out.old) (K.written out.new) (host_line host.0)
+        (K.faults out.old) (K.faults out.new) result }
     ensures later { K.faults out.old ≤ K.faults out.new }
 {
     line.clear();
@@ -47,7 +49,8 @@ pub fn put_entry<K: Sink>(
     tick: u64,
     e: Entry,
 ) -> Result<(), WriteEnd>
-    ensures answer { WritesText (K.written out.old) (K.written out.new) (entry_line tick e) (K.faults out.old) (K.faults out.new) result }
+    ensures answer { WritesText (K.written out.old) (K.written out.new) (entry_line tick e)
+        (K.faults out.old) (K.faults out.new) result }
     ensures later { K.faults out.old ≤ K.faults out.new }
 {
     line.clear();
@@ -64,7 +67,8 @@ pub fn put_result<K: Sink>(
     report: Option<Report>,
     retries: u64,
 ) -> Result<(), WriteEnd>
-    ensures answer { WritesText (K.written out.old) (K.written out.new) (result_text c report retries) (K.faults out.old) (K.faults out.new) result }
+    ensures answer { WritesText (K.written out.old) (K.written out.new) (result_text c report retries)
+        (K.faults out.old) (K.faults out.new) result }
     ensures later { K.faults out.old ≤ K.faults out.new }
 {
     line.clear();
@@ -75,7 +79,8 @@ pub fn put_result<K: Sink>(
 }
 
 pub fn put_skip<K: Sink>(out: &mut K, line: &mut String, skip: (u64, Why)) -> Result<(), WriteEnd>
-    ensures answer { WritesText (K.written out.old) (K.written out.new) (skip_line skip) (K.faults out.old) (K.faults out.new) result }
+    ensures answer { WritesText (K.written out.old) (K.written out.new) (skip_line skip)
+        (K.faults out.old) (K.faults out.new) result }
     ensures later { K.faults out.old ≤ K.faults out.new }
 {
     let (number, why) = skip;

@@ -39,7 +39,8 @@ fn tick_after(tick: u64, e: &Entry) -> u64
 
 // Writes the lines of a journal.
 fn write_entries<K: Sink>(out: &mut K, line: &mut String, entries: &[Entry]) -> Result<(), WriteEnd>
-    ensures answer { WritesText (K.written out.old) (K.written out.new) (entry_lines (reverse entries.now)) (K.faults out.old) (K.faults out.new) result }
+    ensures answer { WritesText (K.written out.old) (K.written out.new) (entry_lines (reverse entries.now))
+        (K.faults out.old) (K.faults out.new) result }
     ensures later { K.faults out.old ≤ K.faults out.new }
 {
     let mut tick = 0;
@@ -59,7 +60,8 @@ fn write_results<K: Sink>(
     ids: &[u32],
     results: &Results,
 ) -> Result<(), WriteEnd>
-    ensures answer { WritesText (K.written out.old) (K.written out.new) (flat_map (gathered_line results.now) ids.now) (K.faults out.old) (K.faults out.new) result }
+    ensures answer { WritesText (K.written out.old) (K.written out.new) (flat_map (gathered_line results.now) ids.now)
+        (K.faults out.old) (K.faults out.new) result }
     ensures later { K.faults out.old ≤ K.faults out.new }
 {
     for c in ids {
@@ -82,7 +84,8 @@ pub fn write_host<K: Sink>(
     entries: &[Entry],
     out: &mut K,
 ) -> Result<(), WriteEnd>
-    ensures answer { WritesText (K.written out.old) (K.written out.new) (host_text host.0 cmds.now entries.now) (K.faults out.old) (K.faults out.new) result }
+    ensures answer { WritesText (K.written out.old) (K.written out.new) (host_text host.0 cmds.now entries.now)
+        (K.faults out.old) (K.faults out.new) result }
     ensures later { K.faults out.old ≤ K.faults out.new }
 {
     let Ok(results) = Results::gather(alloc, entries) else {
@@ -108,7 +111,8 @@ pub fn write_skips<K: Sink>(
     skips: &[(u64, Why)],
     out: &mut K,
 ) -> Result<(), WriteEnd>
-    ensures answer { WritesText (K.written out.old) (K.written out.new) (skips_text skips.now) (K.faults out.old) (K.faults out.new) result }
+    ensures answer { WritesText (K.written out.old) (K.written out.new) (skips_text skips.now)
+        (K.faults out.old) (K.faults out.new) result }
     ensures later { K.faults out.old ≤ K.faults out.new }
 {
     let mut line = String::new(alloc);
