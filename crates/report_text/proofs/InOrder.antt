@@ -1,7 +1,7 @@
 -- A sort of numbers gives their ascending order, since two ascending lists with the same numbers in them are the same.
-use Rattle.std.proofs.Common.{◌≡◌, ℕ, zero, suc, ◌+◌, ◌<◌, ◌≤◌, ◌==◌, ◌⊎◌, inl, inr, Bool, true, false, nat_le, if◌then◌else◌, List, [], ◌∷◌, length, refl, sym, ap, ◌∙◌, arith, nat_cmp, slice_index_or}
+use Rattle.std.proofs.Common.{◌≡◌, ℕ, zero, suc, ◌+◌, ◌<◌, ◌≤◌, ◌==◌, inl, inr, Bool, true, false, nat_le, if◌then◌else◌, List, [], ◌∷◌, length, refl, sym, ap, ◌∙◌, arith, nat_cmp, slice_index_or}
 use Rattle.std.specs.List.{sum_by}
-use Rattle.std.specs.List.Sorted.{IsPermutation, IsSorted, IsNonDecreasing}
+use Rattle.std.specs.List.Sorted.{IsPermutation, IsSorted, IsNonDecreasing, IsNonDecreasingBy}
 use Rattle.std.proofs.lemmas.Bool.{cases_order, cases_Bool}
 use Rattle.std.proofs.lemmas.Grind.{common_steps}
 use Rattle.std.proofs.lemmas.List.Sorted.{IsNonDecreasingBy-from_sort, sum_by-IsPermutation}
@@ -134,3 +134,12 @@ unfolding order
 sorted_is xs ys moved sorted =
     same ys (order xs) (rises ys (IsNonDecreasingBy-from_sort (λ (c : ℕ). c) ys sorted)) (rises-order xs)
     (λ n. times-sum n ys ∙ (sum_by-IsPermutation (λ x. one (x == n)) xs ys moved ∙ (sym (times-sum n xs) ∙ sym (times-order n xs))))
+
+-- what ascends already stays as it is
+pub ascending_stays : {A : Type 0} (number : A → ℕ) (xs : List A) → IsNonDecreasingBy number xs → ascending number xs ≡ xs
+ascending_stays number [] h = refl
+ascending_stays number (x ∷ []) h = refl
+ascending_stays {A} number (x ∷ y ∷ ys) h =
+    let rest = ascending_stays number (y ∷ ys) (λ i j d le lt. h (suc i) (suc j) d (omega (arith, le)) (omega (arith, lt))) in
+    let le : number x ≤ number y = h zero (suc zero) x (omega arith) (omega arith) in
+    ap (λ (zs : List A). placed number x zs) rest ∙ grind (arith, common_steps, le)

@@ -6,7 +6,7 @@ use Rattle.std.proofs.lemmas.Grind.{flat_map-append}
 use Rattle.mid_base.specs.Past.{ticks}
 use Rattle.mid_base.specs.declared.entries.Entry.{Entry}
 use Rattle.mid_base.specs.declared.entries.Entry.TheVariants.{Tick}
-use Rattle.report_text.specs.Results.{result_line, result_text}
+use Rattle.report_text.specs.Results.{result_line}
 use Rattle.report_text.specs.Tables.{SaysOf, gathered_line, tick_after}
 use Rattle.report_text.specs.Text.{entry_line, entry_lines}
 use Rattle.report_text.specs.declared.gather.Row.{Row}

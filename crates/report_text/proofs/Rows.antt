@@ -1,14 +1,11 @@
 -- What one entry more does to what a journal says of commands.
-use Rattle.std.proofs.Common.{◌≡◌, ℕ, suc, ◌+◌, ◌==◌, ◌<◌, ◌≤◌, Bool, true, false, if◌then◌else◌, List, [], ◌∷◌, length, Option, None, Some, refl, sym, ap, ◌∙◌, arith, nat_cmp, unwrap_or, subst}
-use Rattle.std.proofs.lemmas.Grind.{common_steps}
-use Rattle.mid_base.specs.declared.answers.By.{By}
+use Rattle.std.proofs.Common.{◌≡◌, ℕ, suc, ◌+◌, ◌==◌, ◌≤◌, Bool, true, false, if◌then◌else◌, List, [], ◌∷◌, length, Option, Some, refl, arith}
 use Rattle.mid_base.specs.declared.entries.Entry.{Entry}
-use Rattle.mid_base.specs.declared.entries.Entry.TheVariants.{Took, Sent, Bounced, Ready, Due, Longer, DoneSaid, Owned, Late, Judged, AbortSet, Aborted, Failed, Cleared, Sensed, Again, Told}
+use Rattle.mid_base.specs.declared.entries.Entry.TheVariants.{Took, Sent, Bounced, Judged, AbortSet, Aborted, Failed, Cleared, Sensed, Again, Told}
 use Rattle.mid_base.specs.Past.{attempt_of}
 use Rattle.trace_model.specs.Commands.{is_own, retries}
 use Rattle.trace_model.specs.Flush.{last_own}
 use Rattle.report_text.specs.Tables.{kind_of, row_of, next_row}
-use Rattle.report_text.specs.declared.gather.LastOwn.TheVariants as last
 use Rattle.report_text.specs.declared.gather.Row.{Row}
 
 -- one test on both sides

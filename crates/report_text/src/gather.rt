@@ -1,9 +1,9 @@
-ghost use Rattle.std.specs.Prelude.{◌≡◌, ◌+◌, ◌<◌, ◌^◌, ℕ, List, ◌∷◌, reverse, IfOk, OnOk, OnErr};
+ghost use Rattle.std.specs.Prelude.{◌≡◌, ◌+◌, ◌<◌, ◌^◌, ℕ, List, ◌∷◌, reverse, IfOk, OnOk};
 ghost use Rattle.mid_base.specs.declared.entries.Entry.{Entry as EntrySeen};
 ghost use Rattle.std.specs.Ordering.{nat_cmp};
 ghost use Rattle.std.specs.BTreeMap.{get};
 ghost use Rattle.trace_model.specs.Commands.{is_own};
-ghost use Rattle.report_text.specs.Tables.{OwnersAre, ReportsAre, RowsAre, ended_at, is_named, next_row, row_at, row_of};
+ghost use Rattle.report_text.specs.Tables.{OwnersAre, ReportsAre, RowsAre, ended_at, is_named, next_row, row_at};
 
 use crate::results::{Ended, Report};
 use mid_base::{By, Entry, NoMemory};
@@ -163,7 +163,8 @@ fn note_report(
     owners: &BTreeMap<u64, By>,
     e: &Entry,
 ) -> Result<(), NoMemory>
-    ensures { OnOk result ((P : List EntrySeen) → RowsAre rows.now P → OwnersAre owners.now P → ReportsAre reports.old P → ReportsAre reports.new (e.now ∷ P)) }
+    ensures { OnOk result ((P : List EntrySeen) → RowsAre rows.now P → OwnersAre owners.now P
+        → ReportsAre reports.old P → ReportsAre reports.new (e.now ∷ P)) }
 {
     let Entry::Told(c, answer) = e else {
         return Ok(());

@@ -1,4 +1,4 @@
-ghost use Rattle.std.specs.Prelude.{◌≤◌};
+ghost use Rattle.std.specs.Prelude.{◌≡◌, ◌≤◌, IfErr};
 ghost use Rattle.report_text.specs.Ends.{WritesText};
 ghost use Rattle.report_text.specs.Results.{result_text};
 ghost use Rattle.report_text.specs.Text.{entry_line, host_line, skip_line};
@@ -14,12 +14,15 @@ use mid_io::{Sink, write_all};
 pub enum WriteEnd {
     /// A write failed; the sink's count of faults rose.
     Fault,
+    /// An allocation failed.
     NoMemory,
 }
 
-// Writes a line.
+// Writes a line. It takes no memory.
 pub fn put<K: Sink>(out: &mut K, line: &str) -> Result<(), WriteEnd>
-    ensures answer { WritesText (K.written out.old) (K.written out.new) line.now (K.faults out.old) (K.faults out.new) result }
+    ensures answer { WritesText (K.written out.old) (K.written out.new) line.now
+        (K.faults out.old) (K.faults out.new) result }
+    ensures fault { IfErr result (λ end. end ≡ WriteEnd.Fault) }
     ensures later { K.faults out.old ≤ K.faults out.new }
 {
     match write_all(out, line.as_bytes()) {
@@ -29,7 +32,8 @@ pub fn put<K: Sink>(out: &mut K, line: &str) -> Result<(), WriteEnd>
 }
 
 pub fn put_host<K: Sink>(out: &mut K, line: &mut String, host: HostNo) -> Result<(), WriteEnd>
-    ensures answer { WritesText (K.written out.old) (K.written out.new) (host_line host.0) (K.faults out.old) (K.faults out.new) result }
+    ensures answer { WritesText (K.written out.old) (K.written out.new) (host_line host.0)
+        (K.faults out.old) (K.faults out.new) result }
     ensures later { K.faults out.old ≤ K.faults out.new }
 {
     line.clear();
@@ -45,7 +49,8 @@ pub fn put_entry<K: Sink>(
     tick: u64,
     e: Entry,
 ) -> Result<(), WriteEnd>
-    ensures answer { WritesText (K.written out.old) (K.written out.new) (entry_line tick e) (K.faults out.old) (K.faults out.new) result }
+    ensures answer { WritesText (K.written out.old) (K.written out.new) (entry_line tick e)
+        (K.faults out.old) (K.faults out.new) result }
     ensures later { K.faults out.old ≤ K.faults out.new }
 {
     line.clear();
@@ -62,7 +67,8 @@ pub fn put_result<K: Sink>(
     report: Option<Report>,
     retries: u64,
 ) -> Result<(), WriteEnd>
-    ensures answer { WritesText (K.written out.old) (K.written out.new) (result_text c report retries) (K.faults out.old) (K.faults out.new) result }
+    ensures answer { WritesText (K.written out.old) (K.written out.new) (result_text c report retries)
+        (K.faults out.old) (K.faults out.new) result }
     ensures later { K.faults out.old ≤ K.faults out.new }
 {
     line.clear();
@@ -73,7 +79,8 @@ pub fn put_result<K: Sink>(
 }
 
 pub fn put_skip<K: Sink>(out: &mut K, line: &mut String, skip: (u64, Why)) -> Result<(), WriteEnd>
-    ensures answer { WritesText (K.written out.old) (K.written out.new) (skip_line skip) (K.faults out.old) (K.faults out.new) result }
+    ensures answer { WritesText (K.written out.old) (K.written out.new) (skip_line skip)
+        (K.faults out.old) (K.faults out.new) result }
     ensures later { K.faults out.old ≤ K.faults out.new }
 {
     let (number, why) = skip;

@@ -10,6 +10,7 @@ use mid_base::{CmdSpec, Entry, HostNo, Why};
 use mid_io::Sink;
 use std::alloc::{AllocError, Global};
 
+// The ids of commands, in their order.
 fn ids(alloc: Global, cmds: &[CmdSpec]) -> Result<Vec<u32>, AllocError>
     ensures { IfOk result (λ ids. ids.items ≡ map (λ k. k.id.0) cmds.now) }
 {
@@ -38,7 +39,8 @@ fn tick_after(tick: u64, e: &Entry) -> u64
 
 // Writes the lines of a journal.
 fn write_entries<K: Sink>(out: &mut K, line: &mut String, entries: &[Entry]) -> Result<(), WriteEnd>
-    ensures answer { WritesText (K.written out.old) (K.written out.new) (entry_lines (reverse entries.now)) (K.faults out.old) (K.faults out.new) result }
+    ensures answer { WritesText (K.written out.old) (K.written out.new) (entry_lines (reverse entries.now))
+        (K.faults out.old) (K.faults out.new) result }
     ensures later { K.faults out.old ≤ K.faults out.new }
 {
     let mut tick = 0;
@@ -58,7 +60,8 @@ fn write_results<K: Sink>(
     ids: &[u32],
     results: &Results,
 ) -> Result<(), WriteEnd>
-    ensures answer { WritesText (K.written out.old) (K.written out.new) (flat_map (gathered_line results.now) ids.now) (K.faults out.old) (K.faults out.new) result }
+    ensures answer { WritesText (K.written out.old) (K.written out.new) (flat_map (gathered_line results.now) ids.now)
+        (K.faults out.old) (K.faults out.new) result }
     ensures later { K.faults out.old ≤ K.faults out.new }
 {
     for c in ids {
@@ -69,8 +72,11 @@ fn write_results<K: Sink>(
     Ok(())
 }
 
-/// Writes the lines of a host: `host H`, a line `TICK TEXT` for each entry of its journal, and a line `result ..` for each
-/// of its commands in ascending ids.
+/// Writes the lines of a host, from `host H` to its last result line. Each line is one piece; what is left of a piece that
+/// is taken in part is offered on.
+///
+/// After `Fault` and after `NoMemory` a front of the text is out. The journal is gone over once for the results, and takes
+/// room for its commands and attempts, not for its lines.
 pub fn write_host<K: Sink>(
     alloc: Global,
     host: HostNo,
@@ -78,7 +84,8 @@ pub fn write_host<K: Sink>(
     entries: &[Entry],
     out: &mut K,
 ) -> Result<(), WriteEnd>
-    ensures answer { WritesText (K.written out.old) (K.written out.new) (host_text host.0 cmds.now entries.now) (K.faults out.old) (K.faults out.new) result }
+    ensures answer { WritesText (K.written out.old) (K.written out.new) (host_text host.0 cmds.now entries.now)
+        (K.faults out.old) (K.faults out.new) result }
     ensures later { K.faults out.old ≤ K.faults out.new }
 {
     let Ok(results) = Results::gather(alloc, entries) else {
@@ -97,14 +104,15 @@ pub fn write_host<K: Sink>(
     write_results(out, &mut line, &ids, &results)
 }
 
-/// Writes the lines that follow the hosts: a line `skipped LINE WHY` for each step line that was skipped, in order, and
-/// the line `end`.
+/// Writes the lines that follow the hosts: a `skipped` line for each step that was skipped, with the number of its line in
+/// the script and the cause, and the line `end`. It writes and ends as `write_host` does.
 pub fn write_skips<K: Sink>(
     alloc: Global,
     skips: &[(u64, Why)],
     out: &mut K,
 ) -> Result<(), WriteEnd>
-    ensures answer { WritesText (K.written out.old) (K.written out.new) (skips_text skips.now) (K.faults out.old) (K.faults out.new) result }
+    ensures answer { WritesText (K.written out.old) (K.written out.new) (skips_text skips.now)
+        (K.faults out.old) (K.faults out.new) result }
     ensures later { K.faults out.old ≤ K.faults out.new }
 {
     let mut line = String::new(alloc);
@@ -115,3 +123,6 @@ pub fn write_skips<K: Sink>(
     }
     put(out, "end\n")
 }
+
+#[cfg(test)]
+mod tests;

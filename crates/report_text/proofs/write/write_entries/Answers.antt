@@ -12,7 +12,7 @@ returns-in-Err-clause-answer g c =
     let e = c.e-item.result in
     let at = lines_at c.args.entries.now c.loop-e.e-index e (omega arith) c.e-item.is in
     errs_as _ _ _ (entry_lines P) (entry_line (ticks P) e) (entry_line c.loop-e.tick e) at.0 (entry_lines (reverse c.args.entries.now)) _ _ _ _ c.loop-e.invariant.out at.1 c.loop-e.invariant.later
-      (ap (λ (t : ℕ). entry_line t e) c.loop-e.invariant.tick) c.in-Err.ensures.answer
+    (ap (λ (t : ℕ). entry_line t e) c.loop-e.invariant.tick) c.in-Err.ensures.answer
 
 pub tick_after-tick-requires : goal.tick_after-tick-requires
 tick_after-tick-requires g c =

@@ -13,4 +13,4 @@ returns-in-Err-clause-answer g c =
     let i = c.loop-c.c-index in
     let id = get_or ids i 0 in
     errs_as _ _ _ (flat_map part (take i ids)) (part id) (result_text id c.report.result c.retries.result) (flat_map part (drop (i + 1) ids)) (flat_map part ids) _ _ _ _ c.loop-c.invariant.out (parts_at part ids i 0 (omega arith)) c.loop-c.invariant.later
-      (rw (c.report.ensures, c.retries.ensures) refl) c.in-Err.ensures.answer
+    (rw (c.report.ensures, c.retries.ensures) refl) c.in-Err.ensures.answer

@@ -12,7 +12,7 @@ returns-in-Err-clause-answer g c =
     let skips = c.args.skips.now in
     let i = c.loop-skip.skip-index in
     errs_on _ _ _ (flat_map skip_line (take i skips)) (skip_line (get_or skips i (0, LaneDone))) (flat_map skip_line (drop (i + 1) skips) ++ codes "end\n") (skips_text skips) _ _ _ _ c.loop-skip.invariant.out
-      (parts_before skip_line skips i (0, LaneDone) (codes "end\n") (omega arith)) c.loop-skip.invariant.later c.in-Err.ensures.answer
+    (parts_before skip_line skips i (0, LaneDone) (codes "end\n") (omega arith)) c.loop-skip.invariant.later c.in-Err.ensures.answer
 
 pub returns-clause-answer : goal.returns-clause-answer
 returns-clause-answer g c =

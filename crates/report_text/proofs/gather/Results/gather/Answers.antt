@@ -1,4 +1,4 @@
-use Rattle.std.proofs.Common.{arith, reverse, take, length, ap, length-take}
+use Rattle.std.proofs.Common.{arith, reverse, take, ap, length-take}
 use Rattle.std.proofs.lemmas.List.{length-reverse}
 use Rattle.report_text.specs.declared.gather.Row.{Row}
 use Rattle.report_text.proofs.Back.{back}
