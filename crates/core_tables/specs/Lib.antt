@@ -1,0 +1,4 @@
+pub mod Stage
+pub mod Runs
+pub mod Shows
+pub mod Ready

@@ -1,0 +1,4 @@
+pub mod Handlers
+pub mod Standing
+pub mod Calls
+pub mod Laws

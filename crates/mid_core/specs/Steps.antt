@@ -1,0 +1,80 @@
+-- What a step of a core does.
+use Rattle.std.specs.Prelude.{◌≡◌, ℕ, ◌==◌, ◌&&◌, ◌≤◌, Bool, true, false, List, [], ◌∷◌, ◌++◌, reverse, Option, Some, None, Result, Ok, Err, slice_get, slice_set}
+use Rattle.std.specs.List.{list_all}
+use Rattle.mid_base.specs.declared.answers.BusyOf.{BusyOf}
+use Rattle.mid_base.specs.declared.answers.BusyOf.TheVariants.{Host as BusyHost, Device as BusyDevice}
+use Rattle.mid_base.specs.declared.answers.By.{By}
+use Rattle.mid_base.specs.declared.answers.NoMemory.{NoMemory}
+use Rattle.mid_base.specs.declared.answers.TagState.{TagState}
+use Rattle.mid_base.specs.declared.answers.TagState.TheVariants as tag
+use Rattle.mid_base.specs.declared.entries.Entry.{Entry}
+use Rattle.mid_base.specs.declared.entries.Entry.TheVariants as entry
+use Rattle.mid_base.specs.declared.host_spec.HostSpec.{HostSpec}
+use Rattle.mid_base.specs.declared.steps.Step.{Step}
+use Rattle.mid_base.specs.declared.steps.Step.TheVariants as step
+use Rattle.mid_base.specs.declared.steps.Did.{Did}
+use Rattle.mid_base.specs.declared.steps.Did.TheVariants.{Done, Skipped}
+use Rattle.mid_base.specs.Past.{ticks}
+use Rattle.host_template.specs.declared.queued.Queued.{Queued}
+use Rattle.host_template.specs.declared.queued.Queued.TheVariants.{DeviceBusy}
+use Rattle.host_template.specs.Standing.{Before, Standing, Unchanged}
+use Rattle.trace_model.specs.Steps.{opens, same_owner, IsAdded, barred}
+use Rattle.mid_core.specs.View.{CoreView}
+
+-- the list begins with an opener of the step
+abbrev pub Opens : HostSpec → List Entry → Step → List Entry → Type 0
+Opens spec P s [] = ⊥
+Opens spec P s (e ∷ g) = opens spec P s e ≡ true
+
+-- the step adds these entries to a journal: they begin with its opener, they are a group (a Send's may be followed by its
+-- Bounced), and nothing barred the step
+pub record AddsTo (spec : HostSpec) (due : Bool) (P : List Entry) (s : Step) (g : List Entry) : Type 0 where
+  pub opened : Opens spec P s g
+  pub added : IsAdded spec P g
+  pub free : barred spec due P s ≡ None
+
+-- an attempt is sent by Send alone, and owned by that Own alone
+abbrev pub may_enter : Step → Entry → Bool
+may_enter step.Send (entry.Sent c n t) = true
+may_enter s (entry.Sent c n t) = false
+may_enter (step.Own n by) (entry.Owned m who) = (m.0 == n.0) && same_owner who by
+may_enter s (entry.Owned m who) = false
+may_enter s e = true
+
+-- how a step that added g changes the states of the tags: Send arms a free one, unless it was bounced; Own turns an armed
+-- one into an owned one; Settle frees an owned one; no other step changes any
+abbrev pub ChangesTags : Step → List Entry → List TagState → List TagState → Type 0
+ChangesTags step.Send (entry.Sent c n t ∷ []) old new = (slice_get old t.0 ≡ Some tag.Free) × (new ≡ slice_set old t.0 (tag.Armed n))
+ChangesTags (step.Own n by) g old new = (t : ℕ) × (slice_get old t ≡ Some (tag.Armed n)) × (new ≡ slice_set old t (tag.Owned n by))
+ChangesTags (step.Settle n) g old new = (t : ℕ) × (by : By) × (slice_get old t ≡ Some (tag.Owned n by)) × (new ≡ slice_set old t tag.Free)
+ChangesTags s g old new = new ≡ old
+
+pub record Adds {A : Type 0} (due : A → ℕ → Bool) (old new : CoreView A) (s : Step) : Type 0 where
+  pub spec : new.spec ≡ old.spec
+  pub before : new.before ≡ old.before
+  pub group : List Entry
+  pub journal : new.journal ≡ old.journal ++ group
+  pub adds : AddsTo old.spec (due old.lower (ticks (reverse old.journal))) (reverse old.journal) s group
+  pub enters : list_all (may_enter s) group ≡ true
+  pub tags : ChangesTags s group old.tags new.tags
+
+-- nothing has changed, but that there may be more room
+pub record IsSame {A : Type 0} (stands : A → Standing) (due : A → ℕ → Bool) (old new : CoreView A) : Type 0 where
+  pub spec : new.spec ≡ old.spec
+  pub before : new.before ≡ old.before
+  pub journal : new.journal ≡ old.journal
+  pub tags : new.tags ≡ old.tags
+  pub spare : old.spare ≤ new.spare
+  pub lower : Unchanged (stands old.lower) (stands new.lower) (due old.lower) (due new.lower)
+
+-- Done adds a group. Skipped comes exactly where a condition of the step fails, with the first one that does, and changes
+-- nothing; so does want of memory.
+abbrev pub Answers : {A : Type 0} → (A → Standing) → (A → ℕ → Bool) → CoreView A → CoreView A → Step → Result Did NoMemory → Type 0
+Answers stands due old new s (Ok Done) = Adds due old new s
+Answers stands due old new s (Ok (Skipped why)) = (new ≡ old) × (barred old.spec (due old.lower (ticks (reverse old.journal))) (reverse old.journal) s ≡ Some why)
+Answers stands due old new s (Err e) = IsSame stands due old new
+
+-- who was busy, where the lower layer didn't take the attempt
+abbrev pub who_was_busy : Queued → BusyOf
+who_was_busy DeviceBusy = BusyDevice
+who_was_busy q = BusyHost

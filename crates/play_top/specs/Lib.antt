@@ -1,0 +1,4 @@
+pub mod Reading
+pub mod Played
+pub mod Texts
+pub mod Play

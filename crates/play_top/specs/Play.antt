@@ -1,0 +1,37 @@
+-- What a run of the program did.
+use Rattle.std.specs.Prelude.{ℕ, ◌⊎◌, List, [], Option, Ok, Err}
+use Rattle.std.specs.Io.KnownBytes.{Appends, IsAtEnd}
+use Rattle.mid_base.specs.declared.entries.Entry.{Entry}
+use Rattle.mid_base.specs.declared.steps.Why.{Why}
+use Rattle.mid_base.specs.declared.host_spec.HostSpec.{HostSpec}
+use Rattle.mid_io.specs.Whole.{IsCutShort}
+use Rattle.script_text.specs.declared.script.Script.{Script}
+use Rattle.script_text.specs.declared.script.Bad.{Bad}
+use Rattle.play_top.specs.Reading.{Says}
+use Rattle.play_top.specs.Played.{Ran}
+use Rattle.play_top.specs.Texts.{played_text, bad_text}
+
+-- the source was read to its end, its bytes are a good script, the script was played, and the text of the journal written
+pub record IsGoodRun (left left_new old new : Option (List ℕ)) : Type 0 where
+  pub script : Script
+  pub says : Says left (Ok script)
+  pub ended : IsAtEnd left_new
+  pub spec : HostSpec
+  pub journal : List Entry
+  pub skips : List (ℕ × Why)
+  pub ran : Ran script spec journal skips
+  pub written : Appends old new (played_text spec journal skips)
+
+-- the source's bytes are a bad script, and its first bad line with its kind was written
+pub record IsBadRun (left old new : Option (List ℕ)) : Type 0 where
+  pub bad : Bad
+  pub says : Says left (Err bad)
+  pub written : Appends old new (bad_text bad)
+
+-- a front of the text, or of a bad script's line, was written, or nothing at all
+abbrev pub IsCutOff : Option (List ℕ) → Option (List ℕ) → Option (List ℕ) → Type 0
+IsCutOff left old new =
+    ((bad : Bad) × Says left (Err bad) × IsCutShort old new (bad_text bad))
+    ⊎ ((script : Script) × (spec : HostSpec) × (journal : List Entry) × (skips : List (ℕ × Why))
+       × Says left (Ok script) × Ran script spec journal skips × IsCutShort old new (played_text spec journal skips))
+    ⊎ Appends old new []

@@ -1,0 +1,66 @@
+ghost use Rattle.std.specs.Prelude.{◌≡◌, ◌≢◌, ◌⊎◌, []};
+ghost use Rattle.mid_io.specs.Causes.{Rose};
+ghost use Rattle.std.specs.Io.KnownBytes.{Appends};
+ghost use Rattle.mid_io.specs.Whole.{IsCutShort, TakesAtMost};
+ghost use Rattle.play_top.specs.Reading.{most_bytes};
+ghost use Rattle.play_top.specs.Play.{IsGoodRun, IsBadRun, IsCutOff};
+ghost use Rattle.play_top.specs.Texts.{usage_text};
+
+use crate::playing::play_script;
+use crate::reading::{Unread, read_script};
+use crate::status::Status;
+use crate::writing::{write_bad, write_played};
+use mid_io::{Sink, Source, write_all};
+use report_text::WriteEnd;
+use std::alloc::Global;
+
+/// Plays the script of a source and writes its journal.
+///
+/// `words` are those of the command line without the program's name; as yet only the empty list is one that is known.
+///
+/// A script is played by its step lines. What is written is, for its host, a line `host H`, a line `TICK TEXT` for each
+/// entry of its journal and a line `result ..` for its command; then a line `skipped LINE WHY` for each step line that
+/// wasn't enabled, and the line `end`.
+///
+/// The status says what came of it; where memory runs out it is 7, whatever else holds.
+pub fn play<S: Source, K: Sink>(
+    alloc: Global,
+    words: &[String],
+    src: &mut S,
+    out: &mut K,
+) -> Status
+    ensures ok { result.0 ≡ 0 → (words.now ≡ []) × IsGoodRun (S.left src.old) (S.left src.new) (K.written out.old) (K.written out.new) }
+    ensures usage { result.0 ≡ 2 → (words.now ≢ []) × (src.new ≡ src.old) × Appends (K.written out.old) (K.written out.new) usage_text }
+    ensures bad { result.0 ≡ 3 → (words.now ≡ []) × IsBadRun (S.left src.old) (K.written out.old) (K.written out.new) }
+    ensures read { result.0 ≡ 4 → (words.now ≡ []) × Rose (S.faults src.old) (S.faults src.new) × (out.new ≡ out.old) }
+    ensures write { result.0 ≡ 5 → Rose (K.faults out.old) (K.faults out.new) }
+    ensures cut_usage { result.0 ≡ 5 → words.now ≢ [] → IsCutShort (K.written out.old) (K.written out.new) usage_text }
+    ensures cut { result.0 ≡ 5 → words.now ≡ [] → IsCutOff (S.left src.old) (K.written out.old) (K.written out.new) }
+    ensures memory { result.0 ≡ 7 → (words.now ≡ []) × IsCutOff (S.left src.old) (K.written out.old) (K.written out.new) }
+    ensures statuses { (result.0 ≡ 0) ⊎ (result.0 ≡ 2) ⊎ (result.0 ≡ 3) ⊎ (result.0 ≡ 4) ⊎ (result.0 ≡ 5) ⊎ (result.0 ≡ 7) }
+    ensures bound { TakesAtMost (S.left src.old) (S.left src.new) most_bytes }
+{
+    if !words.is_empty() {
+        return match write_all(out, b"usage\n") {
+            Ok(()) => Status(2),
+            Err(_) => Status(5),
+        };
+    }
+    match read_script(alloc, src) {
+        Ok(script) => match play_script(alloc, script) {
+            Ok(played) => match write_played(alloc, &played, out) {
+                Ok(()) => Status(0),
+                Err(WriteEnd::Fault) => Status(5),
+                Err(WriteEnd::NoMemory) => Status(7),
+            },
+            Err(_) => Status(7),
+        },
+        Err(Unread::Bad(bad)) => match write_bad(alloc, bad, out) {
+            Ok(()) => Status(3),
+            Err(WriteEnd::Fault) => Status(5),
+            Err(WriteEnd::NoMemory) => Status(7),
+        },
+        Err(Unread::Fault) => Status(4),
+        Err(Unread::NoMemory) => Status(7),
+    }
+}

@@ -1,0 +1,21 @@
+//! What a journal says and which journals are legal: the rules of the mid level as definitions that look back over a list
+//! of entries, and the laws that they give.
+//!
+//! The definitions know no waiting lists, tag pools, deadline lists or state words, which the code has. A list that is
+//! looked back over has its newest entry first; a journal has its oldest entry first.
+#![tactic(auto)]
+
+mod laws;
+mod standing;
+mod worked;
+
+pub use laws::{
+    acts_are_quiet, each_attempt_has_one_owner, each_command_is_told_once, groups_are_places,
+    legal_journals_keep_the_headline, nothing_follows_a_report, places_are_groups,
+};
+pub use standing::Standing;
+pub use worked::{
+    expiry_wins_is_legal, no_callbacks_is_legal, recovery_too_early_is_not_legal,
+    report_left_out_is_not_legal, skipped_levels_are_not_legal, tick_over_an_answer_is_not_legal,
+    two_owners_are_not_legal, two_recovered_is_legal,
+};
