@@ -1,7 +1,7 @@
 -- What the words of a line without a fault are like, each at its place.
 use Rattle.std.proofs.Common.{◌≡◌, ℕ, ◌<◌, ◌≤◌, lit<, Bool, true, false, List, [], ◌∷◌, Option, Some, None, unwrap_or, refl, arith}
-use Rattle.std.proofs.lemmas.Bool.{leb-true, lt-ltb, eq-eqb, and_parts}
-use Rattle.std.specs.Prelude.{◌==◌, ◌^◌, ◌-◌, nat_lt, nat_le, is_some}
+use Rattle.std.proofs.lemmas.Bool.{leb-true, and_parts}
+use Rattle.std.specs.Prelude.{◌^◌, ◌-◌, nat_le, is_some}
 use Rattle.mid_base.specs.Limits.{is_between, is_address}
 use Rattle.script_text.specs.declared.kind.Kind.{Kind}
 use Rattle.script_text.specs.declared.words.StepName.{StepName}

@@ -1,9 +1,7 @@
 -- What a good script says keeps the limits.
-use Rattle.std.proofs.Common.{◌≡◌, ℕ, ◌+◌, Bool, true, false, ◌&&◌, ◌||◌, List, [], ◌∷◌, length, Option, Some, None, Result, Ok, Err, refl, ◌∙◌, subst, arith, inl, inr, ◌++◌}
+use Rattle.std.proofs.Common.{◌≡◌, ℕ, ◌+◌, Bool, true, false, ◌&&◌, ◌||◌, List, [], ◌∷◌, length, Option, Some, None, Result, Ok, Err, refl, subst, arith, inl, inr, ◌++◌}
 use Rattle.std.specs.Prelude.{All, ◌==◌, nat_lt, nat_le, is_some, is_none}
-use Rattle.std.specs.List.{list_all}
-use Rattle.std.proofs.lemmas.Bool.{cases_Bool, and_from, and_parts, le-leb, eqb-true}
-use Rattle.std.proofs.lemmas.List.Folds.{list_all-append}
+use Rattle.std.proofs.lemmas.Bool.{cases_Bool, and_from, and_parts, le-leb}
 use Rattle.std.proofs.lemmas.List.Elements.{All-cons, All-nil}
 use Rattle.mid_base.specs.Limits.{is_between, is_lun, is_command}
 use Rattle.mid_base.specs.declared.names.HostNo.{HostNo}

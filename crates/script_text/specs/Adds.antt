@@ -1,5 +1,5 @@
 -- What a good line adds.
-use Rattle.std.specs.Prelude.{ℕ, false, true, List, [], ◌∷◌, ◌++◌, Option, Some, None, replicate}
+use Rattle.std.specs.Prelude.{ℕ, false, true, List, [], ◌∷◌, ◌++◌, Option, Some, replicate}
 use Rattle.std.proofs.Common.{lit≤, refl}
 use Rattle.mid_base.specs.Padded.{padded_made}
 use Rattle.mid_base.specs.declared.bytes.CdbBytes.{CdbBytes}

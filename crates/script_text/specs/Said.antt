@@ -1,5 +1,5 @@
 -- What the lines so far say, and which line may come then.
-use Rattle.std.specs.Prelude.{ℕ, ◌==◌, Bool, true, false, not, ◌&&◌, List, [], Option, Some, None, is_some, is_none}
+use Rattle.std.specs.Prelude.{ℕ, ◌==◌, Bool, false, not, ◌&&◌, List, [], Option, Some, None, is_some, is_none}
 use Rattle.mid_base.specs.Address.{same_dev}
 use Rattle.mid_base.specs.declared.names.DevAddr.{DevAddr}
 use Rattle.mid_base.specs.declared.names.HostNo.{HostNo}
