@@ -5,6 +5,8 @@
 mod playing;
 mod reading;
 mod status;
+#[cfg(test)]
+mod tests;
 mod top;
 mod writing;
 
