@@ -71,3 +71,33 @@ impl CoreBook {
         &self.items
     }
 }
+
+#[cfg(test)]
+mod tests {
+    use super::*;
+    use mid_base::CmdId;
+    use std::test::Fail;
+
+    #[test]
+    fn a_journal_grows_at_its_end_within_its_room(rt: HostRuntime) -> Result<(), Fail> {
+        let Ok(mut book) = CoreBook::new(rt.alloc(), 1) else {
+            assert!(rt; false, "room for one entry");
+            return Ok(());
+        };
+        assert_eq!(rt; book.entries(), [].as_slice());
+        book.push(Entry::Took(CmdId(7)));
+        assert_eq!(rt; book.entries(), [Entry::Took(CmdId(7))].as_slice());
+        assert_eq!(rt; book.reserve(0), Ok(()));
+        if book.reserve(2).is_err() {
+            assert!(rt; false, "room for two more");
+            return Ok(());
+        }
+        book.push(Entry::Tick);
+        book.push(Entry::EhBegin);
+        assert_eq!(rt;
+            book.entries(),
+            [Entry::Took(CmdId(7)), Entry::Tick, Entry::EhBegin].as_slice()
+        );
+        Ok(())
+    }
+}

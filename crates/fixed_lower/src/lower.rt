@@ -87,3 +87,38 @@ impl HostTemplate for FixedLower {
 
     ghost quiet_tick = { λ x s b P idle h. quiet_law x.held.items P idle h };
 }
+
+#[cfg(test)]
+mod tests {
+    use super::*;
+    use std::test::Fail;
+
+    #[test]
+    fn attempts_are_answered_in_order_one_tick_after_their_sending(
+        rt: HostRuntime,
+    ) -> Result<(), Fail> {
+        let dev = DevAddr {
+            channel: 0,
+            target: 0,
+            lun: 0,
+        };
+        let cdb = CdbBytes::from_slice(&[0; 6]);
+        let mut lower = FixedLower::new(rt.alloc());
+        assert!(rt; lower.reserve(2).is_ok());
+        assert!(rt; lower.work(Tick(3)) == Ok(None));
+        for n in [8, 5] {
+            let queued = lower.queue(Attempt(n), dev, &cdb, 0, Tick(3));
+            assert!(rt; queued == Ok(Queued::Taken), "attempt {n}");
+        }
+        assert!(rt; !lower.due(Tick(3)) && lower.due(Tick(4)));
+        assert!(rt; lower.work(Tick(3)) == Ok(None));
+        for n in [8, 5] {
+            assert!(rt;
+                lower.work(Tick(4)) == Ok(Some((Attempt(n), good()))),
+                "attempt {n}"
+            );
+        }
+        assert!(rt; !lower.due(Tick(4)));
+        Ok(())
+    }
+}

@@ -78,3 +78,34 @@ impl SenseBytes {
         &self.bytes[..self.len as usize]
     }
 }
+
+#[cfg(test)]
+mod tests {
+    use super::*;
+
+    #[test]
+    fn bytes_come_back_and_equal_lists_are_equal_values(rt: HostRuntime) {
+        let mut bytes = [0u8; 252];
+        for i in 0..252 {
+            bytes[i] = i as u8;
+        }
+        for length in [1, 6, 16] {
+            let cdb = CdbBytes::from_slice(&bytes[..length]);
+            assert_eq!(rt; cdb.as_slice(), &bytes[..length], "{length} bytes");
+            assert_eq!(rt; CdbBytes::from_slice(cdb.as_slice()), cdb, "{length} bytes");
+        }
+        for length in [0, 1, 18, 252] {
+            let sense = SenseBytes::from_slice(&bytes[..length]);
+            assert_eq!(rt; sense.as_slice(), &bytes[..length], "{length} bytes");
+            assert_eq!(rt;
+                SenseBytes::from_slice(sense.as_slice()),
+                sense,
+                "{length} bytes"
+            );
+        }
+        // The padding is no part of a list: a byte of zero is one more.
+        assert!(rt; CdbBytes::from_slice(&[0]) != CdbBytes::from_slice(&[0, 0]));
+        assert!(rt; SenseBytes::from_slice(&[0]) != SenseBytes::empty());
+        assert_eq!(rt; SenseBytes::from_slice(&[]), SenseBytes::empty());
+    }
+}

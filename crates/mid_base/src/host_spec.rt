@@ -79,3 +79,30 @@ pub struct HostSpec {
     pub cmds: Rows<CmdSpec>,
     pub plan: Rows<PlanEntry>,
 }
+
+#[cfg(test)]
+mod tests {
+    use super::*;
+
+    #[test]
+    fn handlers_have_a_bit_and_a_name_for_each_callback(rt: HostRuntime) {
+        let table = [
+            ("ABORT", 1, Handlers::ABORT),
+            ("DEVICE", 2, Handlers::DEVICE),
+            ("TARGET", 4, Handlers::TARGET),
+            ("BUS", 8, Handlers::BUS),
+            ("HOST", 16, Handlers::HOST),
+        ];
+        let mut all = Handlers::empty();
+        for (name, bit, handler) in table {
+            assert!(rt; Handlers::from_name(name) == Some(handler), "{name}");
+            assert_eq!(rt; handler.bits(), bit, "{name}");
+            assert!(rt; Handlers::from_bits_retain(bit) == handler, "{name}");
+            assert!(rt; !all.contains(handler), "{name}");
+            all.insert(handler);
+            assert!(rt; all.contains(handler), "{name}");
+        }
+        assert!(rt; all == Handlers::all() && all.bits() == 31);
+        assert!(rt; Handlers::from_bits(32) == None);
+    }
+}

@@ -62,3 +62,22 @@ impl<T> Rows<T> {
         self.items.is_empty()
     }
 }
+
+#[cfg(test)]
+mod tests {
+    use super::*;
+    use crate::CmdId;
+    use std::test::Fail;
+
+    #[test]
+    fn rows_are_those_of_their_vec(rt: HostRuntime) -> Result<(), Fail> {
+        let none: Rows<CmdId> = Rows::new(rt.alloc());
+        assert!(rt; none.is_empty() && none.len() == 0);
+        let rows = Rows::from_vec([CmdId(9), CmdId(4)].to_vec(rt.alloc())?);
+        assert_eq!(rt; rows.as_slice(), [CmdId(9), CmdId(4)].as_slice());
+        assert!(rt; !rows.is_empty() && rows.len() == 2);
+        let items = rows.into_vec();
+        assert_eq!(rt; items.as_slice(), [CmdId(9), CmdId(4)].as_slice());
+        Ok(())
+    }
+}
