@@ -1,9 +1,8 @@
 -- What the bytes that were read say of the whole source.
-use Rattle.std.proofs.Common.{◌≡◌, ℕ, zero, suc, ◌+◌, ◌<◌, ◌≤◌, Bool, true, false, ◌&&◌, List, [], ◌∷◌, ◌++◌, length, take, Option, None, Some, Result, Ok, Err, refl, sym, ap, ◌∙◌, subst, arith, inl, inr, length-append, length-take}
+use Rattle.std.proofs.Common.{◌≡◌, ℕ, ◌+◌, ◌≤◌, true, false, List, [], ◌∷◌, length, Option, None, Some, Result, Ok, Err, refl, sym, ap, ◌∙◌, arith, inl, inr, length-append, length-take}
 use Rattle.std.specs.Prelude.{nat_lt}
 use Rattle.std.specs.Io.KnownBytes.{Consumes}
-use Rattle.std.proofs.lemmas.Bool.{cases_Bool, lt-ltb, cases_lt}
-use Rattle.std.proofs.lemmas.List.{take_all}
+use Rattle.std.proofs.lemmas.Bool.{lt-ltb, cases_lt}
 use Rattle.mid_io.specs.Whole.{IsFront}
 use Rattle.script_text.specs.declared.script.Script.{Script}
 use Rattle.script_text.specs.declared.script.Bad.{Bad}
@@ -32,7 +31,7 @@ cut_is_bad : (rest : List (List ℕ)) (line : List ℕ) (n : ℕ) (said : Said) 
 unfolding judge_lines
 cut_is_bad [] line n said script e = cc
 cut_is_bad (next ∷ rest) line n said script e =
-  goes_on_bad n (λ s. judge_lines true (n + 1) s (next ∷ rest)) (judge n said (words line)) script (λ s. cut_is_bad rest next (n + 1) s script) e
+    goes_on_bad n (λ s. judge_lines true (n + 1) s (next ∷ rest)) (judge n said (words line)) script (λ s. cut_is_bad rest next (n + 1) s script) e
 
 lines_left : (ls : List (List ℕ)) (n : ℕ) (said : Said) (script : Script) → is_last ls ≡ false → judge_lines true n said ls ≡ Ok script → ⊥
 lines_left [] n said script some e = cc
@@ -41,12 +40,13 @@ lines_left (line ∷ rest) n said script some e = cut_is_bad rest line n said sc
 pub good_is_short : (text : List ℕ) (script : Script) → script_of text ≡ Ok script → length text ≤ 16777216
 unfolding script_of
 good_is_short text script e = elim (cases_lt 16777216 (length text)) [
-    inr short ↦ short
+  | inr short ↦ short
   | inl long ↦
-    let cut : nat_lt 16777216 (length text) ≡ true = lt-ltb 16777216 (length text) long in
-    let count : length (counted text) ≡ 16777217 = omega (arith, length-take {A = ℕ} 16777217 text) in
-    let some : is_last (lines (counted text)) ≡ false = no_line_left (counted text) ∙ rw count refl in
-    absurd (lines_left (lines (counted text)) 1 nothing script some (rw cut at e)) ]
+      let cut : nat_lt 16777216 (length text) ≡ true = lt-ltb 16777216 (length text) long in
+      let count : length (counted text) ≡ 16777217 = omega (arith, length-take {A = ℕ} 16777217 text) in
+      let some : is_last (lines (counted text)) ≡ false = no_line_left (counted text) ∙ rw count refl in
+      absurd (lines_left (lines (counted text)) 1 nothing script some (rw cut at e))
+]
 
 -- a good script leaves nothing of its source
 empty : (zs : List ℕ) → length zs ≡ 0 → zs ≡ []
@@ -57,12 +57,12 @@ pub ends : (left left_new : Option (List ℕ)) (bytes : List ℕ) (script : Scri
 ends None left_new bytes script front took e = tt
 ends (Some xs) None bytes script front took e = tt
 ends (Some xs) (Some ys) bytes script front took e =
-  let short = good_is_short bytes script e in
-  let none : length ys ≡ 0 = omega (arith, short, ap length took, ap length front, length-append {A = ℕ} bytes ys, length-take {A = ℕ} 16777217 xs) in
-  empty ys none
+    let short = good_is_short bytes script e in
+    let none : length ys ≡ 0 = omega (arith, short, ap length took, ap length front, length-append {A = ℕ} bytes ys, length-take {A = ℕ} 16777217 xs) in
+    empty ys none
 
 pub reads : (left left_new : Option (List ℕ)) (before now : ℕ) (bytes : List ℕ) → IsFront left 16777217 bytes → Consumes left left_new bytes
-  → (result : Result Script Unread) → ScriptReads bytes result → ReadsScript left left_new before now result
+    → (result : Result Script Unread) → ScriptReads bytes result → ReadsScript left left_new before now result
 reads left left_new before now bytes front took (Ok script) h = (says_all left bytes (Ok script) front h.0, ends left left_new bytes script front took h.0, h.1)
 reads left left_new before now bytes front took (Err (unread.Bad bad)) h = says_all left bytes (Err bad) front h
 reads left left_new before now bytes front took (Err unread.Fault) h = absurd h

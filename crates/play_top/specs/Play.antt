@@ -33,5 +33,5 @@ abbrev pub IsCutOff : Option (List ℕ) → Option (List ℕ) → Option (List �
 IsCutOff left old new =
     ((bad : Bad) × Says left (Err bad) × IsCutShort old new (bad_text bad))
     ⊎ ((script : Script) × (spec : HostSpec) × (journal : List Entry) × (skips : List (ℕ × Why))
-       × Says left (Ok script) × Ran script spec journal skips × IsCutShort old new (played_text spec journal skips))
+    × Says left (Ok script) × Ran script spec journal skips × IsCutShort old new (played_text spec journal skips))
     ⊎ Appends old new []

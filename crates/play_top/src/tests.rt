@@ -2,16 +2,21 @@ use crate::{Status, play};
 use mid_io::{MemSink, MemSource};
 use std::test::Fail;
 
-const FIRST: &str = "host 0 4 adtbh\nlun 0 0:0:0 2048 8\ncmd 1 0 0 0:0:0 30 5 - 000000000000\nstep 0 submit 0\nstep 0 send\nstep 0 send\nstep 0 tick\nstep 0 work\nstep 0 own 1 answer\nstep 0 settle 1\nend stop\n";
+const FIRST: &str =
+    "host 0 4 adtbh\nlun 0 0:0:0 2048 8\ncmd 1 0 0 0:0:0 30 5 - 000000000000\nstep 0 submit 0\nstep 0 send\nstep 0 send\nstep 0 tick\nstep 0 work\nstep 0 own 1 answer\nstep 0 settle 1\nend stop\n";
 
-const FIRST_TEXT: &str = "host 0\n0 took 1\n0 sent 1 1 0\n0 tick\n1 ready 1 00 00 0 0 -\n1 owned 1 answer\n1 judged 1 1 success\n1 told 1 00 00 0 0 -\nresult 1 answered 00 00 0 0 - 0\nskipped 6 nosend\nend\n";
+const FIRST_TEXT: &str =
+    "host 0\n0 took 1\n0 sent 1 1 0\n0 tick\n1 ready 1 00 00 0 0 -\n1 owned 1 answer\n1 judged 1 1 success\n1 told 1 00 00 0 0 -\nresult 1 answered 00 00 0 0 - 0\nskipped 6 nosend\nend\n";
 
 // Each step line that can be skipped, wherever its conditions can fail over this lower layer.
-const SKIPS: &str = "host 7 1 -\nlun 7 1:2:3 1 1\ncmd 9 7 0 1:2:3 2 0 - 000000000000\nstep 7 work\nstep 7 send\nstep 7 own 1 answer\nstep 7 settle 1\nstep 7 submit 0\nstep 7 submit 0\nstep 7 send\nstep 7 own 1 answer\nstep 7 own 2 answer\nstep 7 tick\nstep 7 tick\nstep 7 work\nstep 7 tick\nstep 7 work\nstep 7 settle 1\nstep 7 own 1 answer\nstep 7 own 1 answer\nstep 7 settle 1\nstep 7 settle 1\nstep 7 tick\nend stop";
+const SKIPS: &str =
+    "host 7 1 -\nlun 7 1:2:3 1 1\ncmd 9 7 0 1:2:3 2 0 - 000000000000\nstep 7 work\nstep 7 send\nstep 7 own 1 answer\nstep 7 settle 1\nstep 7 submit 0\nstep 7 submit 0\nstep 7 send\nstep 7 own 1 answer\nstep 7 own 2 answer\nstep 7 tick\nstep 7 tick\nstep 7 work\nstep 7 tick\nstep 7 work\nstep 7 settle 1\nstep 7 own 1 answer\nstep 7 own 1 answer\nstep 7 settle 1\nstep 7 settle 1\nstep 7 tick\nend stop";
 
-const SKIPS_TEXT: &str = "host 7\n0 took 9\n0 sent 9 1 0\n0 tick\n1 ready 1 00 00 0 0 -\n1 owned 1 answer\n1 judged 9 1 success\n1 told 9 00 00 0 0 -\n1 tick\nresult 9 answered 00 00 0 0 - 0\nskipped 4 nowork\nskipped 5 nosend\nskipped 6 notopen\nskipped 7 notowned\nskipped 9 lanedone\nskipped 11 notready\nskipped 12 notopen\nskipped 14 workdue\nskipped 16 answerwaiting\nskipped 17 nowork\nskipped 18 notowned\nskipped 20 notopen\nskipped 22 notowned\nend\n";
+const SKIPS_TEXT: &str =
+    "host 7\n0 took 9\n0 sent 9 1 0\n0 tick\n1 ready 1 00 00 0 0 -\n1 owned 1 answer\n1 judged 9 1 success\n1 told 9 00 00 0 0 -\n1 tick\nresult 9 answered 00 00 0 0 - 0\nskipped 4 nowork\nskipped 5 nosend\nskipped 6 notopen\nskipped 7 notowned\nskipped 9 lanedone\nskipped 11 notready\nskipped 12 notopen\nskipped 14 workdue\nskipped 16 answerwaiting\nskipped 17 nowork\nskipped 18 notowned\nskipped 20 notopen\nskipped 22 notowned\nend\n";
 
-const STOPPED: &str = "host 0 4 adtbh\nlun 0 0:0:0 2048 8\ncmd 1 0 0 0:0:0 30 5 - 000000000000\nstep 0 submit 0\nstep 0 send\nend stop\n";
+const STOPPED: &str =
+    "host 0 4 adtbh\nlun 0 0:0:0 2048 8\ncmd 1 0 0 0:0:0 30 5 - 000000000000\nstep 0 submit 0\nstep 0 send\nend stop\n";
 
 const STOPPED_TEXT: &str = "host 0\n0 took 1\n0 sent 1 1 0\nresult 1 open 0\nend\n";
 

@@ -23,12 +23,7 @@ use std::alloc::Global;
 /// wasn't enabled, and the line `end`.
 ///
 /// The status says what came of it; where memory runs out it is 7, whatever else holds.
-pub fn play<S: Source, K: Sink>(
-    alloc: Global,
-    words: &[String],
-    src: &mut S,
-    out: &mut K,
-) -> Status
+pub fn play<S: Source, K: Sink>(alloc: Global, words: &[String], src: &mut S, out: &mut K) -> Status
     ensures ok { result.0 ≡ 0 → (words.now ≡ []) × IsGoodRun (S.left src.old) (S.left src.new) (K.written out.old) (K.written out.new) }
     ensures usage { result.0 ≡ 2 → (words.now ≢ []) × (src.new ≡ src.old) × Appends (K.written out.old) (K.written out.new) usage_text }
     ensures bad { result.0 ≡ 3 → (words.now ≡ []) × IsBadRun (S.left src.old) (K.written out.old) (K.written out.new) }

@@ -14,7 +14,13 @@ pub fn write_played<K: Sink>(alloc: Global, played: &Played, out: &mut K) -> Res
     ensures later { K.faults out.old ≤ K.faults out.new }
 {
     let host = played.core.spec();
-    if let Err(end) = write_host(alloc, host.no, host.cmds.as_slice(), played.core.journal(), out) {
+    if let Err(end) = write_host(
+        alloc,
+        host.no,
+        host.cmds.as_slice(),
+        played.core.journal(),
+        out,
+    ) {
         return Err(end);
     }
     write_skips(alloc, &played.skips, out)

@@ -4,9 +4,8 @@
 
 use mid_io::{StdSink, StdSource};
 use play_top::{Status, play};
-use std::env;
-use std::io;
 use std::process::ExitCode;
+use std::{env, io};
 
 fn main(rt: HostRuntime) -> io::Result<ExitCode> {
     let mut words = Vec::new(rt.alloc());

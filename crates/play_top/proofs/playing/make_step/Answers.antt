@@ -8,8 +8,10 @@ step-requires-after_bounds c = λ l. built (reverse c.args.core.now.journal) c.a
 
 pub returns-in-Done-clause-comes : goal.returns-in-Done-clause-comes
 returns-in-Done-clause-comes c =
-  let core = c.args.core.now in
-  let P = reverse core.journal in
-  let adds = rw c.in-Done.is at c.in_ok-step.ensures.answer in
-  (adds.group, behind core.journal adds.group c.step.new.self.journal adds.journal,
-   subst (λ (due : Bool). AddsTo core.spec due P c.args.step adds.group) (due_is core.lower.held.items P c.journal.ensures.stands) adds.adds)
+    let core = c.args.core.now in
+    let P = reverse core.journal in
+    let adds = rw c.in-Done.is at c.in_ok-step.ensures.answer in (
+      adds.group,
+      behind core.journal adds.group c.step.new.self.journal adds.journal,
+      subst (λ (due : Bool). AddsTo core.spec due P c.args.step adds.group) (due_is core.lower.held.items P c.journal.ensures.stands) adds.adds,
+    )
