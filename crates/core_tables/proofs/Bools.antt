@@ -1,5 +1,5 @@
 -- Small facts on tests. `b` says that an entry is of attempt n, `o` that n is open, `t` that it is answered.
-use Rattle.std.proofs.Common.{◌≡◌, ℕ, Bool, true, false, not, ◌&&◌, ◌||◌, cond, refl, sym, ap, ◌∙◌, subst, Option, Some, None}
+use Rattle.std.proofs.Common.{◌≡◌, Bool, true, false, not, ◌&&◌, ◌||◌, cond, refl, sym, ◌∙◌, Option, Some}
 use Rattle.std.specs.Prelude.{is_none}
 
 pub cond_same : {A : Type 0} (b : Bool) (x : A) → cond b x x ≡ x

@@ -1,5 +1,5 @@
 -- Tags, claims and reports by the running state.
-use Rattle.std.proofs.Common.{◌≡◌, ℕ, zero, suc, ◌+◌, ◌-◌, ◌<◌, ◌==◌, Bool, true, false, not, ◌&&◌, ◌||◌, cond, List, [], ◌∷◌, ◌++◌, Option, Some, None, replicate, refl, sym, ap, ◌∙◌, subst, arith, inl, inr, add-one}
+use Rattle.std.proofs.Common.{◌≡◌, ℕ, zero, suc, ◌+◌, ◌-◌, ◌<◌, ◌==◌, Bool, true, false, not, ◌&&◌, ◌||◌, cond, List, [], ◌∷◌, ◌++◌, Option, Some, None, replicate, refl, sym, ap, ◌∙◌, subst, arith}
 use Rattle.std.specs.Prelude.{is_none}
 use Rattle.std.specs.List.{list_all}
 use Rattle.std.proofs.lemmas.Bool.{ne_eqb, eq-eqb}
@@ -7,20 +7,19 @@ use Rattle.mid_base.specs.declared.names.Tag.{Tag}
 use Rattle.mid_base.specs.declared.names.Attempt.{Attempt}
 use Rattle.mid_base.specs.declared.answers.Answer.{Answer}
 use Rattle.mid_base.specs.declared.answers.By.{By}
-use Rattle.mid_base.specs.declared.answers.By.TheVariants.{Answer as ByAnswer, Expiry as ByExpiry}
-use Rattle.mid_base.specs.declared.answers.TagState.{TagState}
+use Rattle.mid_base.specs.declared.answers.By.TheVariants.{Answer as ByAnswer}
 use Rattle.mid_base.specs.declared.answers.TagState.TheVariants as tag
 use Rattle.mid_base.specs.declared.entries.Entry.{Entry}
 use Rattle.mid_base.specs.declared.host_spec.CmdSpec.{CmdSpec}
 use Rattle.mid_base.specs.declared.host_spec.HostSpec.{HostSpec}
-use Rattle.trace_model.specs.Attempts.{attempts, is_open, is_answered, owner, is_settled, is_due, late}
-use Rattle.trace_model.specs.Drained.{is_done, was_taken, was_told, tellings}
+use Rattle.trace_model.specs.Attempts.{attempts, is_open, is_answered, owner, is_settled, is_due}
+use Rattle.trace_model.specs.Drained.{is_done}
 use Rattle.trace_model.specs.Steps.{sent_with, state_by, tag_state, tags_from, tag_states, tag_for, claims_of as claims_of_attempt, claims_among, waiting_claims}
 use Rattle.core_tables.specs.declared.stage.Sending.{Sending}
 use Rattle.core_tables.specs.declared.stage.Stage.{Stage}
 use Rattle.core_tables.specs.declared.stage.Stage.TheVariants.{New, Waits, Out, Answered, Owned, Ended}
-use Rattle.core_tables.specs.Stage.{number_in, is_out, is_claimed, is_owned, is_taken, tellings_of, is_ended, tag_of, claims_of}
-use Rattle.core_tables.specs.Runs.{IsSingle, countdown, IsSent, IsCurrent, Says}
+use Rattle.core_tables.specs.Stage.{number_in, is_out, is_claimed, is_owned, is_ended, tag_of, claims_of}
+use Rattle.core_tables.specs.Runs.{countdown, IsSent, Says}
 use Rattle.core_tables.specs.Shows.{tags_of}
 use Rattle.core_tables.proofs.Bools.{and_false}
 
@@ -44,7 +43,7 @@ one_claim a b x y h k = rw (h, k) refl
 module _ (s : HostSpec) (P : List Entry) (k : CmdSpec) (sent now : ℕ) (paused : Bool) (lates : List ℕ) where
   -- the states of the tags
   free_at : (x : Stage) → Says s P k x sent now paused lates → (n : ℕ) → is_out x && (number_in x == n) ≡ false → is_owned x && (number_in x == n) ≡ false
-    → state_by n (is_open n P) (is_settled n P) (owner n P) ≡ tag.Free
+      → state_by n (is_open n P) (is_settled n P) (owner n P) ≡ tag.Free
   free_at x run n out owned = free_by n (is_open n P) (is_settled n P) (owner n P) (run.opened n ∙ out) (run.unowned n ∙ ap not owned)
 
   zero_differs : (n : ℕ) → 0 < n → (n == 0) ≡ false
@@ -60,8 +59,8 @@ module _ (s : HostSpec) (P : List Entry) (k : CmdSpec) (sent now : ℕ) (paused 
 
   other_free : (x : Stage) → Says s P k x sent now paused lates → (t : ℕ) → 0 < t → tag_state P t ≡ tag.Free
   other_free x run t some =
-    let none = none_of x run in
-    subst (λ (n : ℕ). state_by n (is_open n P) (is_settled n P) (owner n P) ≡ tag.Free) (sym (run.unused t some)) (free_at x run 0 none.0 none.1)
+      let none = none_of x run in
+      subst (λ (n : ℕ). state_by n (is_open n P) (is_settled n P) (owner n P) ≡ tag.Free) (sym (run.unused t some)) (free_at x run 0 none.0 none.1)
 
   rest_free : (x : Stage) → Says s P k x sent now paused lates → (t n : ℕ) → 0 < t → tags_from t n P ≡ replicate n tag.Free
   rest_free x run t zero some = refl
@@ -69,8 +68,8 @@ module _ (s : HostSpec) (P : List Entry) (k : CmdSpec) (sent now : ℕ) (paused 
 
   armed : (o : Sending) → IsSent P k sent o → ((n : ℕ) → is_open n P ≡ (o.attempt.0 == n)) → tag_state P 0 ≡ tag.Armed o.attempt
   armed o h opened =
-    let open_now : is_open o.attempt.0 P ≡ true = opened o.attempt.0 ∙ same o.attempt.0 in
-    rw (h.5, open_now) refl
+      let open_now : is_open o.attempt.0 P ≡ true = opened o.attempt.0 ∙ same o.attempt.0 in
+      rw (h.5, open_now) refl
 
   first_tag : (x : Stage) → Says s P k x sent now paused lates → tag_state P 0 ≡ tag_of x
   first_tag New run = free_at New run (sent_with 0 P) refl refl
@@ -78,15 +77,15 @@ module _ (s : HostSpec) (P : List Entry) (k : CmdSpec) (sent now : ℕ) (paused 
   first_tag (Out o) run = armed o run.current run.opened
   first_tag (Answered o a) run = armed o run.current.0 run.opened
   first_tag (Owned o a) run =
-    let closed : is_open o.attempt.0 P ≡ false = run.opened o.attempt.0 in
-    rw (run.current.0.5, closed, run.current.3, run.current.2) refl
+      let closed : is_open o.attempt.0 P ≡ false = run.opened o.attempt.0 in
+      rw (run.current.0.5, closed, run.current.3, run.current.2) refl
   first_tag Ended run = free_at Ended run (sent_with 0 P) refl refl
 
   tags_at : (x : Stage) (q : ℕ) → 0 < q → Says s P k x sent now paused lates → tags_of q x ≡ tags_from 0 q P
   tags_at x zero some run = absurd (omega (arith, some))
   tags_at x (suc q) some run =
-    let fewer : suc q - 1 ≡ q = omega arith in
-    rw (first_tag x run, rest_free x run 1 q (omega arith), fewer) refl
+      let fewer : suc q - 1 ≡ q = omega arith in
+      rw (first_tag x run, rest_free x run 1 q (omega arith), fewer) refl
 
   pub tags_are : (x : Stage) → Says s P k x sent now paused lates → tags_of s.can_queue x ≡ tag_states s P
   tags_are x run = tags_at x s.can_queue run.single.tags run
@@ -95,22 +94,22 @@ module _ (s : HostSpec) (P : List Entry) (k : CmdSpec) (sent now : ℕ) (paused 
   none_claimed : (x : Stage) → is_claimed x ≡ false → Says s P k x sent now paused lates → (ns : List ℕ) → claims_among P ns ≡ []
   none_claimed x none run [] = refl
   none_claimed x none run (n ∷ ns) =
-    rw (none_claimed x none run ns)
+      rw (none_claimed x none run ns)
       (no_claims (is_open n P && is_answered n P) (is_open n P && is_due n P) _ _ (run.claimed n ∙ rw none refl) (rw (run.calm.3 n) (and_false (is_open n P))))
 
   earlier_unclaimed : (o : Sending) (a : Answer) → Says s P k (Answered o a) sent now paused lates → (j : ℕ) → j < sent → claims_among P (countdown j) ≡ []
   earlier_unclaimed o a run zero lt = refl
   earlier_unclaimed o a run (suc j) lt =
-    let ne : (o.attempt.0 == suc j) ≡ false = ne_eqb o.attempt.0 (suc j) (λ e. absurd (omega (arith, e, lt, run.current.0.0))) in
-    rw (earlier_unclaimed o a run j (omega arith))
+      let ne : (o.attempt.0 == suc j) ≡ false = ne_eqb o.attempt.0 (suc j) (λ e. absurd (omega (arith, e, lt, run.current.0.0))) in
+      rw (earlier_unclaimed o a run j (omega arith))
       (no_claims (is_open (suc j) P && is_answered (suc j) P) (is_open (suc j) P && is_due (suc j) P) _ _ (run.claimed (suc j) ∙ ne) (rw (run.calm.3 (suc j)) (and_false (is_open (suc j) P))))
 
   claim_at : (o : Sending) (a : Answer) → Says s P k (Answered o a) sent now paused lates → (n : ℕ) → o.attempt.0 ≡ n → claims_of_attempt P n ≡ (o.tag, o.attempt, ByAnswer) ∷ []
   claim_at o a run n e =
-    let tagged : tag_for n P ≡ o.tag = subst (λ (j : ℕ). tag_for j P ≡ o.tag) e run.current.0.6 in
-    let number : ◌≡◌ {A = Attempt} (record { 0 = n }) o.attempt = ap (λ (j : ℕ). record { 0 = j }) (sym e) in
-    one_claim (is_open n P && is_answered n P) (is_open n P && is_due n P) _ _ (run.claimed n ∙ eq-eqb o.attempt.0 n e) (rw (run.calm.3 n) (and_false (is_open n P)))
-    ∙ ap (λ (x : Tag × Attempt × By). x ∷ []) (ap (λ (t : Tag). (t, record { 0 = n }, ByAnswer)) tagged ∙ ap (λ (m : Attempt). (o.tag, m, ByAnswer)) number)
+      let tagged : tag_for n P ≡ o.tag = subst (λ (j : ℕ). tag_for j P ≡ o.tag) e run.current.0.6 in
+      let number : ◌≡◌ {A = Attempt} (record { 0 = n }) o.attempt = ap (λ (j : ℕ). record { 0 = j }) (sym e) in
+      one_claim (is_open n P && is_answered n P) (is_open n P && is_due n P) _ _ (run.claimed n ∙ eq-eqb o.attempt.0 n e) (rw (run.calm.3 n) (and_false (is_open n P)))
+      ∙ ap (λ (x : Tag × Attempt × By). x ∷ []) (ap (λ (t : Tag). (t, record { 0 = n }, ByAnswer)) tagged ∙ ap (λ (m : Attempt). (o.tag, m, ByAnswer)) number)
 
   one_among : (o : Sending) (a : Answer) → Says s P k (Answered o a) sent now paused lates → (m : ℕ) → m ≡ sent → claims_among P (countdown m) ≡ (o.tag, o.attempt, ByAnswer) ∷ []
   one_among o a run zero e = absurd (omega (arith, e, run.current.0.1))

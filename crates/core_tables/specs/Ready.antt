@@ -1,5 +1,5 @@
 -- Which steps are built, what bars one by the running state, and what is known where nothing does.
-use Rattle.std.specs.Prelude.{◌≡◌, ℕ, ◌+◌, ◌-◌, ◌^◌, ◌<◌, ◌==◌, ◌&&◌, ◌||◌, not, Bool, true, false, List, [], ◌∷◌, Option, None, Some, nat_le}
+use Rattle.std.specs.Prelude.{◌≡◌, ℕ, ◌+◌, ◌-◌, ◌^◌, ◌<◌, ◌==◌, ◌&&◌, ◌||◌, not, Bool, true, false, [], ◌∷◌, Option, None, nat_le}
 use Rattle.mid_base.specs.declared.answers.Answer.{Answer}
 use Rattle.mid_base.specs.declared.answers.By.TheVariants.{Answer as ByAnswer}
 use Rattle.mid_base.specs.declared.steps.Step.{Step}
@@ -11,7 +11,7 @@ use Rattle.trace_model.specs.Flush.{is_empty}
 use Rattle.trace_model.specs.Steps.{first_why, most}
 use Rattle.core_tables.specs.declared.stage.Sending.{Sending}
 use Rattle.core_tables.specs.declared.stage.Stage.{Stage}
-use Rattle.core_tables.specs.declared.stage.Stage.TheVariants.{New, Waits, Out, Answered, Owned, Ended}
+use Rattle.core_tables.specs.declared.stage.Stage.TheVariants.{New, Waits, Out, Answered, Owned}
 use Rattle.core_tables.specs.declared.running.Running.{Running}
 use Rattle.core_tables.specs.Stage.{standing_of, number_in, is_out, is_claimed, is_owned}
 

@@ -1,5 +1,5 @@
 -- The running state says what the entries P, the newest first, say.
-use Rattle.std.specs.Prelude.{◌≡◌, ℕ, zero, suc, ◌+◌, ◌-◌, ◌^◌, ◌<◌, ◌==◌, ◌&&◌, ◌||◌, not, Bool, true, false, List, [], ◌∷◌, None, Some, if◌then◌else◌, is_none, nat_lt}
+use Rattle.std.specs.Prelude.{◌≡◌, ℕ, zero, suc, ◌+◌, ◌^◌, ◌<◌, ◌==◌, ◌&&◌, ◌||◌, not, Bool, false, List, [], ◌∷◌, None, Some, if◌then◌else◌, is_none}
 use Rattle.mid_base.specs.declared.names.DevAddr.{DevAddr}
 use Rattle.mid_base.specs.declared.answers.By.TheVariants.{Answer as ByAnswer}
 use Rattle.mid_base.specs.declared.states.DeviceState.TheVariants.{Running as RunningState}
@@ -17,7 +17,7 @@ use Rattle.trace_model.specs.Drained.{was_taken, tellings}
 use Rattle.trace_model.specs.Steps.{sent_with, tag_for}
 use Rattle.core_tables.specs.declared.stage.Sending.{Sending}
 use Rattle.core_tables.specs.declared.stage.Stage.{Stage}
-use Rattle.core_tables.specs.declared.stage.Stage.TheVariants.{New, Waits, Out, Answered, Owned, Ended}
+use Rattle.core_tables.specs.declared.stage.Stage.TheVariants.{Out, Answered, Owned}
 use Rattle.core_tables.specs.declared.running.Running.{Running}
 use Rattle.core_tables.specs.Stage.{standing_of, number_in, is_out, is_claimed, is_owned, is_taken, tellings_of, taken_of}
 

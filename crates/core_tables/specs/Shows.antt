@@ -1,5 +1,5 @@
 -- What the running state shows of tags and claims, and how a call changes it.
-use Rattle.std.specs.Prelude.{◌≡◌, ℕ, ◌-◌, List, [], ◌∷◌, replicate}
+use Rattle.std.specs.Prelude.{◌≡◌, ℕ, ◌-◌, List, ◌∷◌, replicate}
 use Rattle.mid_base.specs.declared.names.Tag.{Tag}
 use Rattle.mid_base.specs.declared.names.Attempt.{Attempt}
 use Rattle.mid_base.specs.declared.answers.By.{By}

@@ -1,5 +1,5 @@
 -- What a stage says of its command and of the command's last attempt.
-use Rattle.std.specs.Prelude.{◌≡◌, ℕ, ◌&&◌, ◌==◌, Bool, true, false, List, [], ◌∷◌, if◌then◌else◌, replicate, ◌-◌}
+use Rattle.std.specs.Prelude.{ℕ, Bool, true, false, List, [], ◌∷◌}
 use Rattle.mid_base.specs.declared.names.Tag.{Tag}
 use Rattle.mid_base.specs.declared.names.Attempt.{Attempt}
 use Rattle.mid_base.specs.declared.answers.By.{By}

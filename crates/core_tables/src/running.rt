@@ -155,13 +155,7 @@ impl Running {
         match step {
             Step::Submit(lane) => self.bars_submit(lane),
             Step::Send => self.bars_send(),
-            Step::Work => {
-                if due {
-                    None
-                } else {
-                    Some(Why::NoWork)
-                }
-            }
+            Step::Work => { if due { None } else { Some(Why::NoWork) } }
             Step::Own(n, By::Answer) => self.bars_own(n),
             Step::Settle(n) => self.bars_settle(n),
             Step::Tick => self.bars_tick(due),

@@ -3,11 +3,11 @@ use Rattle.std.specs.Prelude.{◌≡◌, ℕ, false, List, ◌∷◌}
 use Rattle.std.proofs.Common.{subst}
 use Rattle.mid_base.specs.declared.names.Attempt.{Attempt}
 use Rattle.mid_base.specs.declared.entries.Entry.{Entry}
-use Rattle.mid_base.specs.declared.entries.Entry.TheVariants.{Took, Sent, Bounced, Ready, Due, Longer, DoneSaid, Owned, Late, Judged, AbortSet, Aborted, Failed, Cleared, Sensed, Again, Told, EhBegin, EhEnd, Act, Probe, Offline, State, Tick}
+use Rattle.mid_base.specs.declared.entries.Entry.TheVariants.{Sent, Bounced, Ready, Tick}
 use Rattle.mid_base.specs.declared.host_spec.HostSpec.{HostSpec}
 use Rattle.mid_base.specs.Past.{ticks}
 use Rattle.host_template.specs.Laws.{IsSilent}
-use Rattle.fixed_lower.specs.LowerRun.{IsAt, LowerRun, is_due_at}
+use Rattle.fixed_lower.specs.LowerRun.{IsAt, is_due_at}
 
 pub silent_law : (held : List (Attempt × ℕ)) (s : HostSpec) (P : List Entry) (e : Entry) → IsSilent s e → IsAt held P → IsAt held (e ∷ P)
 silent_law held s P (Sent c n t) quiet h = absurd quiet

@@ -1,5 +1,5 @@
 -- A new core has one command whose device is running, and journals grow at their end.
-use Rattle.std.proofs.Common.{◌≡◌, ℕ, ◌<◌, ◌≤◌, ◌==◌, Bool, true, false, ◌&&◌, List, [], ◌∷◌, ◌++◌, reverse, refl, sym, ap, ◌∙◌, subst, arith, inl, inr, append_assoc}
+use Rattle.std.proofs.Common.{◌≡◌, ℕ, ◌<◌, ◌≤◌, true, ◌&&◌, List, [], ◌∷◌, ◌++◌, reverse, ap, ◌∙◌, subst, arith, inl, inr, append_assoc}
 use Rattle.std.specs.List.{list_all}
 use Rattle.std.proofs.lemmas.Bool.{cases_Bool, and_parts, leb-true}
 use Rattle.std.proofs.lemmas.List.{reverse-append}
@@ -9,7 +9,7 @@ use Rattle.mid_base.specs.declared.host_spec.CmdSpec.{CmdSpec}
 use Rattle.mid_base.specs.declared.host_spec.LunSpec.{LunSpec}
 use Rattle.mid_base.specs.declared.host_spec.HostSpec.{HostSpec}
 use Rattle.mid_base.specs.Address.{same_dev, has_dev}
-use Rattle.mid_base.specs.Limits.{is_between, is_address, is_lun, is_command, KeepsLimits}
+use Rattle.mid_base.specs.Limits.{is_between, is_lun, is_command, KeepsLimits}
 use Rattle.trace_model.specs.Names.{depth_in}
 use Rattle.core_tables.specs.Runs.{IsSingle}
 use Rattle.mid_core.specs.View.{HasOneCommand}
@@ -23,24 +23,25 @@ lun_takes_one l h = let least : 1 ≤ l.depth = between_least 1 1024 l.depth (an
 takes_one : (luns : List LunSpec) (d : DevAddr) → has_dev luns d ≡ true → list_all is_lun luns ≡ true → 0 < depth_in luns d
 takes_one [] d has all = cc
 takes_one (l ∷ luns) d has all =
-  let both = and_parts (is_lun l) (list_all is_lun luns) all in
-  elim (cases_Bool (same_dev l.dev d)) [
-    inl is ↦ rw is (lun_takes_one l both.0)
-  | inr isnt ↦ let rest : has_dev luns d ≡ true = rw isnt at has in rw isnt (takes_one luns d rest both.1) ]
+    let both = and_parts (is_lun l) (list_all is_lun luns) all in
+    elim (cases_Bool (same_dev l.dev d)) [
+      | inl is ↦ rw is (lun_takes_one l both.0)
+      | inr isnt ↦ let rest : has_dev luns d ≡ true = rw isnt at has in rw isnt (takes_one luns d rest both.1)
+    ]
 
 names_device : (luns : List LunSpec) (k : CmdSpec) → is_command luns k ≡ true → has_dev luns k.dev ≡ true
 names_device luns k h = (and_parts _ _ (and_parts _ _ (and_parts _ _ (and_parts _ _ h).0).0).0).0
 
 pub single_is : (s : HostSpec) (k : CmdSpec) → KeepsLimits s → HasOneCommand s → s.cmds ≡ k ∷ [] → IsSingle s k
 single_is s k limits one e =
-  let known : is_command s.luns k && true ≡ true = subst (λ (ks : List CmdSpec). list_all (is_command s.luns) ks ≡ true) e limits.commands in
-  let least : 1 ≤ s.can_queue = between_least 1 1024 s.can_queue limits.tags in
-  record {
-    commands = e;
-    running = one.running k e;
-    deep = takes_one s.luns k.dev (names_device s.luns k (and_parts _ _ known).0) limits.luns;
-    tags = omega arith;
-  }
+    let known : is_command s.luns k && true ≡ true = subst (λ (ks : List CmdSpec). list_all (is_command s.luns) ks ≡ true) e limits.commands in
+    let least : 1 ≤ s.can_queue = between_least 1 1024 s.can_queue limits.tags in
+    record {
+      commands = e;
+      running = one.running k e;
+      deep = takes_one s.luns k.dev (names_device s.luns k (and_parts _ _ known).0) limits.luns;
+      tags = omega arith;
+    }
 
 -- one entry more
 pub added : (J J1 J2 : List Entry) (e : Entry) → J1 ≡ J → J2 ≡ J1 ++ e ∷ [] → J2 ≡ J ++ e ∷ []

@@ -1,5 +1,5 @@
 -- What a step of a core does.
-use Rattle.std.specs.Prelude.{◌≡◌, ℕ, ◌==◌, ◌&&◌, ◌≤◌, Bool, true, false, List, [], ◌∷◌, ◌++◌, reverse, Option, Some, None, Result, Ok, Err, slice_get, slice_set}
+use Rattle.std.specs.Prelude.{◌≡◌, ℕ, ◌==◌, ◌&&◌, ◌≤◌, Bool, true, false, List, [], ◌∷◌, ◌++◌, reverse, Some, None, Result, Ok, Err, slice_get, slice_set}
 use Rattle.std.specs.List.{list_all}
 use Rattle.mid_base.specs.declared.answers.BusyOf.{BusyOf}
 use Rattle.mid_base.specs.declared.answers.BusyOf.TheVariants.{Host as BusyHost, Device as BusyDevice}
@@ -17,7 +17,7 @@ use Rattle.mid_base.specs.declared.steps.Did.TheVariants.{Done, Skipped}
 use Rattle.mid_base.specs.Past.{ticks}
 use Rattle.host_template.specs.declared.queued.Queued.{Queued}
 use Rattle.host_template.specs.declared.queued.Queued.TheVariants.{DeviceBusy}
-use Rattle.host_template.specs.Standing.{Before, Standing, Unchanged}
+use Rattle.host_template.specs.Standing.{Standing, Unchanged}
 use Rattle.trace_model.specs.Steps.{opens, same_owner, IsAdded, barred}
 use Rattle.mid_core.specs.View.{CoreView}
 

@@ -1,5 +1,5 @@
 -- What contracts see of a core, and what always holds of one.
-use Rattle.std.specs.Prelude.{◌≡◌, ℕ, Bool, true, List, [], ◌∷◌, Some, length}
+use Rattle.std.specs.Prelude.{◌≡◌, ℕ, true, List, [], ◌∷◌, Some, length}
 use Rattle.mid_base.specs.declared.answers.Answer.{Answer}
 use Rattle.mid_base.specs.declared.answers.TagState.{TagState}
 use Rattle.mid_base.specs.declared.entries.Entry.{Entry}

@@ -13,8 +13,8 @@ use core_book::CoreBook;
 use core_tables::Running;
 use host_template::{HostTemplate, Queued};
 use mid_base::{
-    Attempt, BusyOf, By, CmdSpec, DevAddr, DeviceState, Did, Disp, Entry, HostSpec, LaneNo, LunSpec,
-    NoMemory, Rows, Step, Tag, TagState, Why,
+    Attempt, BusyOf, By, CmdSpec, DevAddr, DeviceState, Did, Disp, Entry, HostSpec, LaneNo,
+    LunSpec, NoMemory, Rows, Step, Tag, TagState, Why,
 };
 use std::alloc::Global;
 use std::marker::Model;
@@ -185,7 +185,10 @@ impl<A: HostTemplate> Core<A> {
         self.lower.reserve(1)?;
         let o = self.running.next_sending();
         let k = *self.running.command();
-        match self.lower.queue(o.attempt, k.dev, &k.cdb, k.fill, self.running.now())? {
+        match self
+            .lower
+            .queue(o.attempt, k.dev, &k.cdb, k.fill, self.running.now())?
+        {
             Queued::Taken => {
                 self.book.push(Entry::Sent(k.id, o.attempt, o.tag));
                 self.running.send(o);
@@ -194,7 +197,8 @@ impl<A: HostTemplate> Core<A> {
             busy => {
                 self.book.push(Entry::Sent(k.id, o.attempt, o.tag));
                 self.running.send(o);
-                self.book.push(Entry::Bounced(k.id, o.attempt, busy_of(busy)));
+                self.book
+                    .push(Entry::Bounced(k.id, o.attempt, busy_of(busy)));
                 self.running.bounce(o);
                 Ok(Did::Done)
             }

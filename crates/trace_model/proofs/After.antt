@@ -47,9 +47,10 @@ filter_in fs f (x ∷ xs) h = ⊎_elim (λ yes. rw yes (h.0, filter_in fs f xs h
 
 map_in : (s : HostSpec) (P : List Entry) (fs gs : List Failure) → ((c n : ℕ) → has_failure c n gs ≡ true → has_failure c n fs ≡ true) → AllIn fs (map (todo_of s P) gs)
 map_in s P fs [] h = tt
-map_in s P fs (g ∷ gs) h =
-    ((g.attempt.0, h g.cmd.0 g.attempt.0 (rw (eq-eqb g.cmd.0 g.cmd.0 refl, eq-eqb g.attempt.0 g.attempt.0 refl) refl)),
-     map_in s P fs gs (λ c n q. h c n (or_right ((g.cmd.0 == c) && (g.attempt.0 == n)) (has_failure c n gs) q)))
+map_in s P fs (g ∷ gs) h = (
+  (g.attempt.0, h g.cmd.0 g.attempt.0 (rw (eq-eqb g.cmd.0 g.cmd.0 refl, eq-eqb g.attempt.0 g.attempt.0 refl) refl)),
+  map_in s P fs gs (λ c n q. h c n (or_right ((g.cmd.0 == c) && (g.attempt.0 == n)) (has_failure c n gs) q)),
+)
   where
     or_right : (a b : Bool) → b ≡ true → a || b ≡ true
     or_right true b q = refl
@@ -68,10 +69,12 @@ clear_named fs level (x ∷ xs) h = (h.0, clear_named fs level xs h.1)
 
 tests_named : (fs : List Failure) (ds : List DevAddr) (k : List DevAddr → Course) → ((r : List DevAddr) → Owes (Named fs) (k r)) → Owes (Named fs) (tests ds k)
 tests_named fs [] k h = h []
-tests_named fs (d ∷ ds) k h =
-    (λ say. tt, λ say. either (Named fs) (is_doubtful say) _ _
+tests_named fs (d ∷ ds) k h = (
+  λ say. tt,
+  λ say. either (Named fs) (is_doubtful say) _ _
       (λ again. tt, λ again. tests_named fs ds (λ ready. k (kept_if again d ready)) (λ r. h (kept_if again d r)))
-      (tests_named fs ds (λ ready. k (kept_if say d ready)) (λ r. h (kept_if say d r))))
+      (tests_named fs ds (λ ready. k (kept_if say d ready)) (λ r. h (kept_if say d r))),
+)
 
 test_named : (fs : List Failure) (level : ℕ) (xs : List Todo) → AllIn fs xs → Owes (Named fs) (test_and_clear level xs)
 test_named fs level xs h = tests_named fs (devs xs) _ (λ ready. clear_named fs level (filter (on_one_of ready) xs) (filter_in fs (on_one_of ready) xs h))

@@ -1,11 +1,11 @@
 -- What a legal journal promises follows from its rules.
-use Rattle.std.proofs.Common.{◌≡◌, ℕ, zero, suc, ◌==◌, ◌≤◌, Bool, true, false, not, ◌&&◌, ◌||◌, List, [], ◌∷◌, reverse, refl, arith, ◌∙◌, subst}
+use Rattle.std.proofs.Common.{◌≡◌, ℕ, zero, suc, ◌==◌, ◌≤◌, Bool, true, false, not, ◌&&◌, ◌||◌, List, [], ◌∷◌, reverse, refl, arith}
 use Rattle.std.specs.List.{list_all}
-use Rattle.std.proofs.lemmas.Bool.{and_parts, eq-eqb, ne_eqb, eqb-false}
+use Rattle.std.proofs.lemmas.Bool.{and_parts, eq-eqb}
 use Rattle.mid_base.specs.declared.entries.Entry.{Entry}
 use Rattle.mid_base.specs.declared.host_spec.CmdSpec.{CmdSpec}
 use Rattle.mid_base.specs.declared.host_spec.HostSpec.{HostSpec}
-use Rattle.trace_model.specs.Drained.{was_taken, was_told, tellings, is_done, Drained}
+use Rattle.trace_model.specs.Drained.{was_taken, was_told, tellings, is_done}
 use Rattle.trace_model.specs.Legal.{Legal, LegalByPlaces}
 use Rattle.trace_model.specs.Headline.{Headline}
 use Rattle.trace_model.proofs.Readings.{by_places}
@@ -27,19 +27,19 @@ one_by (suc n) h le = eq-eqb (suc n) 1 (omega arith)
 told_all : (P : List Entry) (ks : List CmdSpec) → ((c : ℕ) → tellings c P ≤ 1) → list_all (is_done P) ks ≡ true → list_all (λ k. tellings k.id.0 P == 1) ks ≡ true
 told_all P [] once h = refl
 told_all P (k ∷ ks) once h =
-  let both = and_parts (is_done P k) (list_all (is_done P) ks) h in
-  let told : was_told k.id.0 P ≡ true = told_by (was_taken k.id.0 P) (was_told k.id.0 P) both.0 in
-  rw (one_by (tellings k.id.0 P) told (once k.id.0)) (told_all P ks once both.1)
+    let both = and_parts (is_done P k) (list_all (is_done P) ks) h in
+    let told : was_told k.id.0 P ≡ true = told_by (was_taken k.id.0 P) (was_told k.id.0 P) both.0 in
+    rw (one_by (tellings k.id.0 P) told (once k.id.0)) (told_all P ks once both.1)
 
 pub headline : (s : HostSpec) (journal : List Entry) → Legal s journal → Headline s journal
 headline s journal legal =
-  let places : LegalByPlaces s journal = by_places s (reverse journal) legal in
-  let once : (c : ℕ) → tellings c (reverse journal) ≤ 1 = λ c. told_once s (reverse journal) c places in
-  record {
-    legal = legal;
-    told_once = once;
-    none_after_told = λ c. none_after s c (reverse journal) places.each;
-    told_when_drained = λ drained. told_all (reverse journal) s.cmds once drained;
-    one_owner = λ n. one_owner s (reverse journal) n places;
-    quiet = quiet_acts s (reverse journal) places;
-  }
+    let places : LegalByPlaces s journal = by_places s (reverse journal) legal in
+    let once : (c : ℕ) → tellings c (reverse journal) ≤ 1 = λ c. told_once s (reverse journal) c places in
+    record {
+      legal = legal;
+      told_once = once;
+      none_after_told = λ c. none_after s c (reverse journal) places.each;
+      told_when_drained = λ drained. told_all (reverse journal) s.cmds once drained;
+      one_owner = λ n. one_owner s (reverse journal) n places;
+      quiet = quiet_acts s (reverse journal) places;
+    }

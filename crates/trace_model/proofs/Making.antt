@@ -26,17 +26,17 @@ split_yes : (b : Bool) (x y : Course) (es : List Entry) → b ≡ true → Follo
 split_yes b x y es q f = subst (λ c. Follows (cond c x y) es) (sym q) f
 
 one_test : (d : DevAddr) (ds : List DevAddr) (k : List DevAddr → Course) (es rest : List Entry) (say : ProbeSay) → Tested d es say
-  → Follows (tests ds (λ ready. k (kept_if say d ready))) rest → Follows (tests (d ∷ ds) k) (es ++ rest)
+    → Follows (tests ds (λ ready. k (kept_if say d ready))) rest → Follows (tests (d ∷ ds) k) (es ++ rest)
 one_test d ds k es rest last (once say q) f = ((refl, refl, refl), split_no (is_doubtful say) _ _ rest q f)
 one_test d ds k es rest last (twice say again q) f = ((refl, refl, refl), split_yes (is_doubtful say) _ _ (Probe d test_unit_ready again ∷ rest) q ((refl, refl, refl), f))
 
 -- the tests of all devices, and what comes then
 pub tests_follow : (ds : List DevAddr) (es : List Entry) (ready : List DevAddr) (k : List DevAddr → Course) (rest : List Entry)
-  → AllTested ds es ready → Follows (k ready) rest → Follows (tests ds k) (es ++ rest)
+    → AllTested ds es ready → Follows (k ready) rest → Follows (tests ds k) (es ++ rest)
 tests_follow ds es ready k rest none f = f
 tests_follow ds es ready k rest (more d others first fs say kept t all) f =
     subst (Follows (tests (d ∷ others) k)) (sym (append_assoc first fs rest))
-      (one_test d others k first (fs ++ rest) say t (tests_follow others fs kept (λ r. k (kept_if say d r)) rest all f))
+    (one_test d others k first (fs ++ rest) say t (tests_follow others fs kept (λ r. k (kept_if say d r)) rest all f))
 
 pub onto-reverse : (g P : List Entry) → onto g P ≡ reverse g ++ P
 onto-reverse [] P = refl

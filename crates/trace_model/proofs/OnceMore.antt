@@ -72,7 +72,7 @@ rest_told c P false y h told = told
 took_held : (c : ℕ) (P : List Entry) (d : CmdId) → (d.0 ≡ c → is_new (standing c P) ≡ true) → Held c P → Held c (Took d ∷ P)
 took_held c P d new held = ⊎_elim
     (λ yes. let i = rests c P (inl (new yes.1)) held.2 in
-      (rw yes.0 (idle_live c P idle i held.0), rw yes.0 (idle_failing c P idle i held.1), rw yes.0 (inl refl), held.3, rw yes.0 (inl (not_told c P held.4 (not_ended _ (inl (new yes.1)))))))
+    (rw yes.0 (idle_live c P idle i held.0), rw yes.0 (idle_failing c P idle i held.1), rw yes.0 (inl refl), held.3, rw yes.0 (inl (not_told c P held.4 (not_ended _ (inl (new yes.1)))))))
     (λ no. rw no.0 held)
     (eqb_tells d.0 c)
 
@@ -86,12 +86,12 @@ sent_fresh P d m t e fresh n lt = ⊎_elim
 sent_live : (c : ℕ) (P : List Entry) (d : CmdId) (m : Attempt) (t : Tag) → (d.0 ≡ c → stage c P ≡ idle) → m.0 ≡ sends P + 1 → Fresh P → Live c P (stage c P) → Live c (Sent d m t ∷ P) (stage c (Sent d m t ∷ P))
 sent_live c P d m t i e fresh live n q = ⊎_elim
     (λ yes. let dc : d.0 ≡ c = rw yes.0 at q in let f = fresh n (omega (arith, e, yes.1)) in
-      (λ h. rw (eq-eqb d.0 c dc) (ap out yes.1), λ h. absurd (cc (sym f.1 ∙ h)), λ h. absurd (cc (sym f.2 ∙ h))))
+    (λ h. rw (eq-eqb d.0 c dc) (ap out yes.1), λ h. absurd (cc (sym f.1 ∙ h)), λ h. absurd (cc (sym f.2 ∙ h))))
     (λ no. let r : sent_for n P ≡ c = rw no.0 at q in
-      ⊎_elim
-        (λ same. let x = idle_live c P (stage c (Sent d m t ∷ P)) (i same.1) live n r in (λ h. x.0 (rw no.0 at h), x.1, x.2))
-        (λ other. let x = live n r in (λ h. rw other.0 (x.0 (rw no.0 at h)), λ h. rw other.0 (x.1 h), λ h. rw other.0 (x.2 h)))
-        (eqb_tells d.0 c))
+    ⊎_elim
+    (λ same. let x = idle_live c P (stage c (Sent d m t ∷ P)) (i same.1) live n r in (λ h. x.0 (rw no.0 at h), x.1, x.2))
+    (λ other. let x = live n r in (λ h. rw other.0 (x.0 (rw no.0 at h)), λ h. rw other.0 (x.1 h), λ h. rw other.0 (x.2 h)))
+    (eqb_tells d.0 c))
     (eqb_tells m.0 n)
 
 sent_held : (c : ℕ) (P : List Entry) (d : CmdId) (m : Attempt) (t : Tag) → (d.0 ≡ c → waits (standing c P) ≡ true) → m.0 ≡ sends P + 1 → Held c P → Held c (Sent d m t ∷ P)
@@ -99,10 +99,10 @@ sent_held c P d m t w e held =
     let live = sent_live c P d m t (λ q. rests c P (inr (w q)) held.2) e held.3 held.0 in
     let fresh = sent_fresh P d m t e held.3 in
     ⊎_elim
-      (λ yes. let i = rests c P (inr (w yes.1)) held.2 in
-        (live, idle_failing c P _ i held.1, inr (rw yes.0 refl), fresh, inl (not_told c P held.4 (not_ended _ (inr (w yes.1))))))
-      (λ no. (live, rw no.0 held.1, rw no.0 held.2, fresh, rw no.0 held.4))
-      (eqb_tells d.0 c)
+    (λ yes. let i = rests c P (inr (w yes.1)) held.2 in
+    (live, idle_failing c P _ i held.1, inr (rw yes.0 refl), fresh, inl (not_told c P held.4 (not_ended _ (inr (w yes.1))))))
+    (λ no. (live, rw no.0 held.1, rw no.0 held.2, fresh, rw no.0 held.4))
+    (eqb_tells d.0 c)
 
 -- Bounced
 pub bounced_stage : (c d m : ℕ) (P : List Entry) → just_sent d m P ≡ true → d ≡ c → (stage c P ≡ out m) × (is_busy (standing c P) ≡ true)
@@ -114,12 +114,16 @@ bounced_stage c d m (e ∷ P) h q = cc h
 
 bounced_live : (c : ℕ) (P : List Entry) (d : CmdId) (m : Attempt) (why : BusyOf) → (d.0 ≡ c → stage c P ≡ out m.0) → Live c P (stage c P) → Live c (Bounced d m why ∷ P) (stage c (Bounced d m why ∷ P))
 bounced_live c P d m why o live n e = ⊎_elim
-    (λ same. let x = live n e in let s = o same.1 in
-      (λ h. ⊎_elim (λ yes. absurd (cc (rw yes.0 at h))) (λ no. absurd (no.1 (ap number_of (sym s ∙ x.0 (rw no.0 at h))))) (eqb_tells m.0 n),
-       λ h. absurd (cc (sym s ∙ x.1 h)), λ h. absurd (cc (sym s ∙ x.2 h))))
-    (λ other. let x = live n e in
-      (λ h. ⊎_elim (λ yes. absurd (cc (rw yes.0 at h))) (λ no. rw other.0 (x.0 (rw no.0 at h))) (eqb_tells m.0 n),
-       λ h. rw other.0 (x.1 h), λ h. rw other.0 (x.2 h)))
+    (λ same. let x = live n e in let s = o same.1 in (
+      λ h. ⊎_elim (λ yes. absurd (cc (rw yes.0 at h))) (λ no. absurd (no.1 (ap number_of (sym s ∙ x.0 (rw no.0 at h))))) (eqb_tells m.0 n),
+      λ h. absurd (cc (sym s ∙ x.1 h)),
+      λ h. absurd (cc (sym s ∙ x.2 h)),
+    ))
+    (λ other. let x = live n e in (
+      λ h. ⊎_elim (λ yes. absurd (cc (rw yes.0 at h))) (λ no. rw other.0 (x.0 (rw no.0 at h))) (eqb_tells m.0 n),
+      λ h. rw other.0 (x.1 h),
+      λ h. rw other.0 (x.2 h),
+    ))
     (eqb_tells d.0 c)
 
 bounced_fresh : (P : List Entry) (d : CmdId) (m : Attempt) (why : BusyOf) → Fresh P → Fresh (Bounced d m why ∷ P)
@@ -134,10 +138,10 @@ bounced_held c P d m why j held =
     let live = bounced_live c P d m why (λ q. (bounced_stage c d.0 m.0 P j q).0) held.0 in
     let fresh = bounced_fresh P d m why held.3 in
     ⊎_elim
-      (λ yes. let x = bounced_stage c d.0 m.0 P j yes.1 in
-        (live, λ n h. absurd (cc (sym x.0 ∙ held.1 n h)), rw yes.0 (inl refl), fresh, inl (not_told c P held.4 (busy_not_ended _ x.1))))
-      (λ no. (live, rw no.0 held.1, rw no.0 held.2, fresh, rw no.0 held.4))
-      (eqb_tells d.0 c)
+    (λ yes. let x = bounced_stage c d.0 m.0 P j yes.1 in
+    (live, λ n h. absurd (cc (sym x.0 ∙ held.1 n h)), rw yes.0 (inl refl), fresh, inl (not_told c P held.4 (busy_not_ended _ x.1))))
+    (λ no. (live, rw no.0 held.1, rw no.0 held.2, fresh, rw no.0 held.4))
+    (eqb_tells d.0 c)
 
 -- Owned
 owned_fresh : (P : List Entry) (m : Attempt) (by : By) → is_open m.0 P ≡ true → Fresh P → Fresh (Owned m by ∷ P)
@@ -160,24 +164,26 @@ abbrev pub From : Stage → ℕ → Type 0
 From x m = (x ≡ owned m) ⊎ (x ≡ settled m)
 
 from_live : (c : ℕ) (P Q : List Entry) (m : ℕ) (y : Stage) → From (stage c P) m → Live c P (stage c P)
-  → ((n : ℕ) → sent_for n Q ≡ sent_for n P) → ((n : ℕ) → is_open n Q ≡ is_open n P) → ((n : ℕ) → unsettled n Q ≡ true → (m == n ≡ false) × (unsettled n P ≡ true)) → ((n : ℕ) → among n (aborts Q) ≡ true → (among n (aborts P) ≡ true) ⊎ (y ≡ aborting n)) → Live c Q y
-from_live c P Q m y (inl s) live f o u a n e = let x = live n (sym (f n) ∙ e) in
-    (λ h. absurd (cc (sym s ∙ x.0 (sym (o n) ∙ h))),
-     λ h. let w = u n h in absurd (cc (sym w.0 ∙ eq-eqb m n (ap number_of (sym s ∙ x.1 w.1)))),
-     λ h. ⊎_elim (λ w. absurd (cc (sym s ∙ x.2 w))) (λ w. w) (a n h))
-from_live c P Q m y (inr s) live f o u a n e = let x = live n (sym (f n) ∙ e) in
-    (λ h. absurd (cc (sym s ∙ x.0 (sym (o n) ∙ h))),
-     λ h. let w = u n h in absurd (cc (sym s ∙ x.1 w.1)),
-     λ h. ⊎_elim (λ w. absurd (cc (sym s ∙ x.2 w))) (λ w. w) (a n h))
+    → ((n : ℕ) → sent_for n Q ≡ sent_for n P) → ((n : ℕ) → is_open n Q ≡ is_open n P) → ((n : ℕ) → unsettled n Q ≡ true → (m == n ≡ false) × (unsettled n P ≡ true)) → ((n : ℕ) → among n (aborts Q) ≡ true → (among n (aborts P) ≡ true) ⊎ (y ≡ aborting n)) → Live c Q y
+from_live c P Q m y (inl s) live f o u a n e = let x = live n (sym (f n) ∙ e) in (
+  λ h. absurd (cc (sym s ∙ x.0 (sym (o n) ∙ h))),
+  λ h. let w = u n h in absurd (cc (sym w.0 ∙ eq-eqb m n (ap number_of (sym s ∙ x.1 w.1)))),
+  λ h. ⊎_elim (λ w. absurd (cc (sym s ∙ x.2 w))) (λ w. w) (a n h),
+)
+from_live c P Q m y (inr s) live f o u a n e = let x = live n (sym (f n) ∙ e) in (
+  λ h. absurd (cc (sym s ∙ x.0 (sym (o n) ∙ h))),
+  λ h. let w = u n h in absurd (cc (sym s ∙ x.1 w.1)),
+  λ h. ⊎_elim (λ w. absurd (cc (sym s ∙ x.2 w))) (λ w. w) (a n h),
+)
 
 -- Judged
 judged_live : (c : ℕ) (P : List Entry) (d : CmdId) (m : Attempt) (x : Disp) → (has_begun P ≡ true) ⊎ ((unsettled m.0 P ≡ true) × (sent_for m.0 P ≡ d.0)) → Live c P (stage c P) → Live c (Judged d m x ∷ P) (stage c (Judged d m x ∷ P))
 judged_live c P d m x fit live = ⊎_elim
     (λ yes. ⊎_elim
-      (λ b. absurd (cc (subst (λ v. not v ≡ true) b (and_right (d.0 == c) _ yes))))
-      (λ u. let s = (live m.0 (u.1 ∙ eqb-true d.0 c (and_left (d.0 == c) _ yes))).1 u.0 in
-        from_live c P (Judged d m x ∷ P) m.0 _ (inl s) live (λ n. refl) (λ n. refl) (λ n h. less (is_some (owner n P)) (m.0 == n) (is_settled n P) h) (λ n h. inl h))
-      fit)
+    (λ b. absurd (cc (subst (λ v. not v ≡ true) b (and_right (d.0 == c) _ yes))))
+    (λ u. let s = (live m.0 (u.1 ∙ eqb-true d.0 c (and_left (d.0 == c) _ yes))).1 u.0 in
+    from_live c P (Judged d m x ∷ P) m.0 _ (inl s) live (λ n. refl) (λ n. refl) (λ n h. less (is_some (owner n P)) (m.0 == n) (is_settled n P) h) (λ n h. inl h))
+    fit)
     (λ no. rw no (λ n e. let w = live n e in (w.0, λ h. w.1 (less (is_some (owner n P)) (m.0 == n) (is_settled n P) h).1, w.2)))
     (cases_Bool ((d.0 == c) && not (has_begun P)))
 
@@ -194,13 +200,13 @@ judged_held c P d m x fit held =
     let live = judged_live c P d m x fit held.0 in
     let fresh = settles_fresh P (Judged d m x ∷ P) m.0 (λ n. refl) (λ n h. (less (is_some (owner n P)) (m.0 == n) (is_settled n P) h).1) (λ n lt. (held.3 n lt).2) refl held.3 in
     ⊎_elim
-      (λ yes. ⊎_elim
-        (λ b. absurd (cc (subst (λ v. not v ≡ true) b (and_right (d.0 == c) _ yes))))
-        (λ u. let s = (held.0 m.0 (u.1 ∙ eqb-true d.0 c (and_left (d.0 == c) _ yes))).1 u.0 in
-          (live, λ n h. absurd (cc (sym s ∙ held.1 n h)), inr (busy_now c P (λ i. cc (sym s ∙ i)) held.2), fresh, held.4))
-        fit)
-      (λ no. (live, rw no held.1, rw no held.2, fresh, held.4))
-      (cases_Bool ((d.0 == c) && not (has_begun P)))
+    (λ yes. ⊎_elim
+    (λ b. absurd (cc (subst (λ v. not v ≡ true) b (and_right (d.0 == c) _ yes))))
+    (λ u. let s = (held.0 m.0 (u.1 ∙ eqb-true d.0 c (and_left (d.0 == c) _ yes))).1 u.0 in
+    (live, λ n h. absurd (cc (sym s ∙ held.1 n h)), inr (busy_now c P (λ i. cc (sym s ∙ i)) held.2), fresh, held.4))
+    fit)
+    (λ no. (live, rw no held.1, rw no held.2, fresh, held.4))
+    (cases_Bool ((d.0 == c) && not (has_begun P)))
 
 -- AbortSet
 among_snoc : (n m : ℕ) (ms : List ℕ) → among n (ms ++ m ∷ []) ≡ true → (among n ms ≡ true) ⊎ (n ≡ m)
@@ -214,23 +220,25 @@ false_of false h = refl
 abortset_live : (c : ℕ) (P : List Entry) (d : CmdId) (m : Attempt) → unsettled m.0 P ≡ true → sent_for m.0 P ≡ d.0 → Live c P (stage c P) → Live c (AbortSet d m ∷ P) (stage c (AbortSet d m ∷ P))
 abortset_live c P d m u e live = ⊎_elim
     (λ yes. let s = (live m.0 (e ∙ yes.1)).1 u in
-      rw yes.0 (from_live c P (AbortSet d m ∷ P) m.0 (aborting m.0) (inl s) live (λ n. refl) (λ n. refl) (λ n h. less (is_some (owner n P)) (m.0 == n) (is_settled n P) h)
-        (λ n h. ⊎_elim (λ w. inl w) (λ q. inr (ap aborting (sym q))) (among_snoc n m.0 (aborts P) h))))
-    (λ no. rw no.0 (λ n f. let w = live n f in
-      (w.0, λ h. w.1 (less (is_some (owner n P)) (m.0 == n) (is_settled n P) h).1,
-       λ h. ⊎_elim (λ a. w.2 a) (λ q. absurd (no.1 (sym e ∙ (ap (λ k. sent_for k P) (sym q) ∙ f)))) (among_snoc n m.0 (aborts P) h))))
+    rw yes.0 (from_live c P (AbortSet d m ∷ P) m.0 (aborting m.0) (inl s) live (λ n. refl) (λ n. refl) (λ n h. less (is_some (owner n P)) (m.0 == n) (is_settled n P) h)
+    (λ n h. ⊎_elim (λ w. inl w) (λ q. inr (ap aborting (sym q))) (among_snoc n m.0 (aborts P) h))))
+    (λ no. rw no.0 (λ n f. let w = live n f in (
+      w.0,
+      λ h. w.1 (less (is_some (owner n P)) (m.0 == n) (is_settled n P) h).1,
+      λ h. ⊎_elim (λ a. w.2 a) (λ q. absurd (no.1 (sym e ∙ (ap (λ k. sent_for k P) (sym q) ∙ f)))) (among_snoc n m.0 (aborts P) h),
+    )))
     (eqb_tells d.0 c)
 
 abortset_held : (c : ℕ) (P : List Entry) (d : CmdId) (m : Attempt) → unsettled m.0 P ≡ true → sent_for m.0 P ≡ d.0 → Held c P → Held c (AbortSet d m ∷ P)
 abortset_held c P d m u e held =
     let live = abortset_live c P d m u e held.0 in
     let fresh = settles_fresh P (AbortSet d m ∷ P) m.0 (λ n. refl) (λ n h. (less (is_some (owner n P)) (m.0 == n) (is_settled n P) h).1)
-      (λ n lt. false_of _ (λ h. ⊎_elim (λ w. cc (sym (held.3 n lt).2 ∙ w)) (λ q. cc (sym (held.3 n lt).1 ∙ subst (λ k. unsettled k P ≡ true) (sym q) u)) (among_snoc n m.0 (aborts P) h))) refl held.3 in
+    (λ n lt. false_of _ (λ h. ⊎_elim (λ w. cc (sym (held.3 n lt).2 ∙ w)) (λ q. cc (sym (held.3 n lt).1 ∙ subst (λ k. unsettled k P ≡ true) (sym q) u)) (among_snoc n m.0 (aborts P) h))) refl held.3 in
     ⊎_elim
-      (λ yes. let s = (held.0 m.0 (e ∙ yes.1)).1 u in
-        (live, λ n h. absurd (cc (sym s ∙ held.1 n h)), inr (busy_now c P (λ i. cc (sym s ∙ i)) held.2), fresh, held.4))
-      (λ no. (live, rw no.0 held.1, rw no.0 held.2, fresh, held.4))
-      (eqb_tells d.0 c)
+    (λ yes. let s = (held.0 m.0 (e ∙ yes.1)).1 u in
+    (live, λ n h. absurd (cc (sym s ∙ held.1 n h)), inr (busy_now c P (λ i. cc (sym s ∙ i)) held.2), fresh, held.4))
+    (λ no. (live, rw no.0 held.1, rw no.0 held.2, fresh, held.4))
+    (eqb_tells d.0 c)
 
 -- Aborted
 among_filter : (n m : ℕ) (ms : List ℕ) → among n (filter (λ k. not (k == m)) ms) ≡ true → (among n ms ≡ true) × ((n ≡ m) → ⊥)
@@ -238,17 +246,19 @@ among_filter n m [] h = cc h
 among_filter n m (k ∷ ms) h = ⊎_elim
     (λ yes. let w = among_filter n m ms (rw yes.0 at h) in (⊎_elim (λ a. rw a.0 refl) (λ b. rw b.0 w.0) (eqb_tells n k), w.1))
     (λ no. ⊎_elim
-      (λ a. (rw a.0 refl, λ q. no.1 (sym a.1 ∙ q)))
-      (λ b. let w = among_filter n m ms (rw b.0 at (rw no.0 at h)) in (rw b.0 w.0, w.1))
-      (eqb_tells n k))
+    (λ a. (rw a.0 refl, λ q. no.1 (sym a.1 ∙ q)))
+    (λ b. let w = among_filter n m ms (rw b.0 at (rw no.0 at h)) in (rw b.0 w.0, w.1))
+    (eqb_tells n k))
     (eqb_tells k m)
 
 aborted_live : (c : ℕ) (P : List Entry) (d : CmdId) (m : Attempt) (ok : Bool) → among m.0 (aborts P) ≡ true → sent_for m.0 P ≡ d.0 → Live c P (stage c P) → Live c (Aborted d m ok ∷ P) (stage c (Aborted d m ok ∷ P))
 aborted_live c P d m ok a e live = ⊎_elim
     (λ yes. let s = (live m.0 (e ∙ yes.1)).2 a in
-      λ n f. let w = live n f in
-        (λ h. absurd (cc (sym s ∙ w.0 h)), λ h. absurd (cc (sym s ∙ w.1 h)),
-         λ h. let k = among_filter n m.0 (aborts P) h in absurd (k.1 (ap number_of (sym (w.2 k.0) ∙ s)))))
+    λ n f. let w = live n f in (
+      λ h. absurd (cc (sym s ∙ w.0 h)),
+      λ h. absurd (cc (sym s ∙ w.1 h)),
+      λ h. let k = among_filter n m.0 (aborts P) h in absurd (k.1 (ap number_of (sym (w.2 k.0) ∙ s))),
+    ))
     (λ no. rw no.0 (λ n f. let w = live n f in (w.0, w.1, λ h. w.2 (among_filter n m.0 (aborts P) h).0)))
     (eqb_tells d.0 c)
 
@@ -257,10 +267,10 @@ aborted_held c P d m ok a e held =
     let live = aborted_live c P d m ok a e held.0 in
     let fresh = settles_fresh P (Aborted d m ok ∷ P) m.0 (λ n. refl) (λ n h. h) (λ n lt. false_of _ (λ h. cc (sym (held.3 n lt).2 ∙ (among_filter n m.0 (aborts P) h).0))) refl held.3 in
     ⊎_elim
-      (λ yes. let s = (held.0 m.0 (e ∙ yes.1)).2 a in
-        (live, λ n h. absurd (cc (sym s ∙ held.1 n h)), inr (busy_now c P (λ i. cc (sym s ∙ i)) held.2), fresh, held.4))
-      (λ no. (live, rw no.0 held.1, rw no.0 held.2, fresh, held.4))
-      (eqb_tells d.0 c)
+    (λ yes. let s = (held.0 m.0 (e ∙ yes.1)).2 a in
+    (live, λ n h. absurd (cc (sym s ∙ held.1 n h)), inr (busy_now c P (λ i. cc (sym s ∙ i)) held.2), fresh, held.4))
+    (λ no. (live, rw no.0 held.1, rw no.0 held.2, fresh, held.4))
+    (eqb_tells d.0 c)
 
 -- Failed
 failure_snoc : (c n : ℕ) (fs : List Failure) (f : Failure) → has_failure c n (fs ++ f ∷ []) ≡ true → (has_failure c n fs ≡ true) ⊎ ((f.cmd.0 == c) && (f.attempt.0 == n) ≡ true)
@@ -282,14 +292,21 @@ failed_held : (c : ℕ) (P : List Entry) (d : CmdId) (m : Attempt) (x : Bool) �
 failed_held c P d m x from held =
     let fresh = settles_fresh P (Failed d m x ∷ P) m.0 (λ n. refl) (λ n h. (less (is_some (owner n P)) (m.0 == n) (is_settled n P) h).1) (λ n lt. (held.3 n lt).2) refl held.3 in
     ⊎_elim
-      (λ yes. let s = from yes.1 in
-        (rw yes.0 (from_live c P (Failed d m x ∷ P) m.0 (failing m.0) s held.0 (λ n. refl) (λ n. refl) (λ n h. less (is_some (owner n P)) (m.0 == n) (is_settled n P) h) (λ n h. inl h)),
-         rw yes.0 (λ n h. ⊎_elim (λ w. absurd (from_not_failing (stage c P) m.0 n s (held.1 n w))) (λ w. ap failing (eqb-true m.0 n (and_right (d.0 == c) _ w))) (failure_snoc c n (failed P) (record { cmd = d; attempt = m; cancelled = x }) h)),
-         inr (busy_now c P (from_not_idle (stage c P) m.0 s) held.2), fresh, held.4))
-      (λ no. (rw no.0 (λ n e. let w = held.0 n e in (w.0, λ h. w.1 (less (is_some (owner n P)) (m.0 == n) (is_settled n P) h).1, w.2)),
-        rw no.0 (λ n h. ⊎_elim (λ w. held.1 n w) (λ w. absurd (no.1 (eqb-true d.0 c (and_left (d.0 == c) _ w)))) (failure_snoc c n (failed P) (record { cmd = d; attempt = m; cancelled = x }) h)),
-        rw no.0 held.2, fresh, held.4))
-      (eqb_tells d.0 c)
+    (λ yes. let s = from yes.1 in (
+      rw yes.0 (from_live c P (Failed d m x ∷ P) m.0 (failing m.0) s held.0 (λ n. refl) (λ n. refl) (λ n h. less (is_some (owner n P)) (m.0 == n) (is_settled n P) h) (λ n h. inl h)),
+      rw yes.0 (λ n h. ⊎_elim (λ w. absurd (from_not_failing (stage c P) m.0 n s (held.1 n w))) (λ w. ap failing (eqb-true m.0 n (and_right (d.0 == c) _ w))) (failure_snoc c n (failed P) (record { cmd = d; attempt = m; cancelled = x }) h)),
+      inr (busy_now c P (from_not_idle (stage c P) m.0 s) held.2),
+      fresh,
+      held.4,
+    ))
+    (λ no. (
+      rw no.0 (λ n e. let w = held.0 n e in (w.0, λ h. w.1 (less (is_some (owner n P)) (m.0 == n) (is_settled n P) h).1, w.2)),
+      rw no.0 (λ n h. ⊎_elim (λ w. held.1 n w) (λ w. absurd (no.1 (eqb-true d.0 c (and_left (d.0 == c) _ w)))) (failure_snoc c n (failed P) (record { cmd = d; attempt = m; cancelled = x }) h)),
+      rw no.0 held.2,
+      fresh,
+      held.4,
+    ))
+    (eqb_tells d.0 c)
 
 -- Again and Told
 again_held : (c : ℕ) (P : List Entry) (d : CmdId) (x : Bool) → (d.0 ≡ c → MayEnd c P) → Held c P → Held c (Again d x ∷ P)
@@ -297,19 +314,19 @@ again_held c P d x ends held =
     let live = told_live c P d time_out (λ q. (ends q).0) held.0 in
     let fail = told_failing c P d time_out held.1 in
     ⊎_elim
-      (λ yes. (live, fail, rw yes.0 (inl refl), held.3, inl (not_told c P held.4 (ends yes.1).1)))
-      (λ no. (live, fail, rw no.0 held.2, held.3, rw no.0 held.4))
-      (eqb_tells d.0 c)
+    (λ yes. (live, fail, rw yes.0 (inl refl), held.3, inl (not_told c P held.4 (ends yes.1).1)))
+    (λ no. (live, fail, rw no.0 held.2, held.3, rw no.0 held.4))
+    (eqb_tells d.0 c)
 
 told_held : (c : ℕ) (P : List Entry) (d : CmdId) (a : Answer) → (d.0 ≡ c → MayEnd c P) → Held c P → Held c (Told d a ∷ P)
 told_held c P d a ends held =
     let live = told_live c P d a (λ q. (ends q).0) held.0 in
     let fail = told_failing c P d a held.1 in
     ⊎_elim
-      (λ yes. let z = not_told c P held.4 (ends yes.1).1 in
-        (live, fail, rw yes.0 (inl refl), held.3, rw yes.0 (inr (omega (arith, z), refl))))
-      (λ no. (live, fail, rw no.0 held.2, held.3, rw no.0 held.4))
-      (eqb_tells d.0 c)
+    (λ yes. let z = not_told c P held.4 (ends yes.1).1 in
+    (live, fail, rw yes.0 (inl refl), held.3, rw yes.0 (inr (omega (arith, z), refl))))
+    (λ no. (live, fail, rw no.0 held.2, held.3, rw no.0 held.4))
+    (eqb_tells d.0 c)
 
 held_step : (c : ℕ) (P : List Entry) (e : Entry) → Fits c P e → Held c P → Held c (e ∷ P)
 held_step c P (Took d) f held = took_held c P d f held

@@ -77,10 +77,12 @@ clear_calm level (x ∷ xs) = (refl, clear_calm level xs)
 
 tests_calm : (ds : List DevAddr) (k : List DevAddr → Course) → ((r : List DevAddr) → Owes Calm (k r)) → Owes Calm (tests ds k)
 tests_calm [] k h = h []
-tests_calm (d ∷ ds) k h =
-    (λ say. refl, λ say. either Calm (is_doubtful say) _ _
+tests_calm (d ∷ ds) k h = (
+  λ say. refl,
+  λ say. either Calm (is_doubtful say) _ _
       (λ again. refl, λ again. tests_calm ds (λ ready. k (kept_if again d ready)) (λ r. h (kept_if again d r)))
-      (tests_calm ds (λ ready. k (kept_if say d ready)) (λ r. h (kept_if say d r))))
+      (tests_calm ds (λ ready. k (kept_if say d ready)) (λ r. h (kept_if say d r))),
+)
 
 test_calm : (level : ℕ) (xs : List Todo) → Owes Calm (test_and_clear level xs)
 test_calm level xs = tests_calm (devs xs) _ (λ ready. clear_calm level (filter (on_one_of ready) xs))

@@ -41,7 +41,6 @@ none_yet : (k n m : ℕ) → (0 < k → n ≤ m) → n ≡ m + 1 → k ≡ 0
 none_yet zero n m h e = refl
 none_yet (suc k) n m h e = absurd (omega (arith, h (omega arith), e))
 
-
 sent_number : (s : HostSpec) (P : List Entry) (c n t : ℕ) → may_send s P c n t ≡ true → n ≡ sends P + 1
 sent_number s P c n t h = eqb-true n (sends P + 1) (fourth (not (in_recovery P)) (is_number c (pick s P)) (is_online s (dev_of s c) P) (n == sends P + 1) (is_least_free s P t) h)
   where
@@ -57,33 +56,40 @@ once s (Sent c m t ∷ P) n each =
     let h = once s P n each.1 in
     let number : m.0 ≡ sends P + 1 = ⊎_elim (λ al. sent_number s P c.0 m.0 t.0 al) (λ f. absurd (⊎_elim (λ q. cc q) (λ q. cc q) f)) (stands s P (Sent c m t) each.0) in
     elim (eqb_tells m.0 n) [
-      inl is_it ↦ record {
+      | inl is_it ↦ record {
         one = h.one;
         open_known = λ o. (omega (arith, is_it.1, number), none_yet (owners n P) n (sends P) h.owned_known (omega (arith, is_it.1, number)));
-        owned_known = λ o. omega (arith, h.owned_known o) }
-    | inr isnt ↦ record {
+        owned_known = λ o. omega (arith, h.owned_known o);
+      }
+      | inr isnt ↦ record {
         one = h.one;
         open_known = λ o. let x = h.open_known (rw isnt.0 at o) in (omega (arith, x.0), x.1);
-        owned_known = λ o. omega (arith, h.owned_known o) } ]
+        owned_known = λ o. omega (arith, h.owned_known o);
+      }
+    ]
 once s (Bounced c m why ∷ P) n each =
     let h = once s P n each.1 in
     elim (eqb_tells m.0 n) [
-      inl is_it ↦ record { one = h.one; open_known = λ o. absurd (cc (rw is_it.0 at o)); owned_known = h.owned_known }
-    | inr isnt ↦ record { one = h.one; open_known = λ o. h.open_known (rw isnt.0 at o); owned_known = h.owned_known } ]
+      | inl is_it ↦ record { one = h.one; open_known = λ o. absurd (cc (rw is_it.0 at o)); owned_known = h.owned_known }
+      | inr isnt ↦ record { one = h.one; open_known = λ o. h.open_known (rw isnt.0 at o); owned_known = h.owned_known }
+    ]
 once s (Owned m by ∷ P) n each =
     let h = once s P n each.1 in
     let was : is_open m.0 P ≡ true = ⊎_elim (λ al. owns_open m.0 by P al) (λ f. absurd (⊎_elim (λ q. cc q) (λ q. cc q) f)) (stands s P (Owned m by) each.0) in
     elim (eqb_tells m.0 n) [
-      inl is_it ↦
-        let x = h.open_known (subst (λ k. is_open k P ≡ true) is_it.1 was) in
-        record {
-          one = rw is_it.0 (omega (arith, x.1));
-          open_known = λ o. absurd (cc (rw is_it.0 at o));
-          owned_known = λ o. x.0 }
-    | inr isnt ↦ record {
+      | inl is_it ↦
+          let x = h.open_known (subst (λ k. is_open k P ≡ true) is_it.1 was) in
+          record {
+            one = rw is_it.0 (omega (arith, x.1));
+            open_known = λ o. absurd (cc (rw is_it.0 at o));
+            owned_known = λ o. x.0;
+          }
+      | inr isnt ↦ record {
         one = rw isnt.0 h.one;
         open_known = λ o. let x = h.open_known (rw isnt.0 at o) in (x.0, rw isnt.0 x.1);
-        owned_known = λ o. h.owned_known (rw isnt.0 at o) } ]
+        owned_known = λ o. h.owned_known (rw isnt.0 at o);
+      }
+    ]
 once s (e ∷ P) n each = same n P (e ∷ P) refl refl refl (once s P n each.1)
 
 pub one_owner : (s : HostSpec) (P : List Entry) (n : ℕ) → ByPlaces s P → owners n P ≤ 1

@@ -30,18 +30,18 @@ follows_places : (s : HostSpec) (k : Course) (P es : List Entry) → EachStands 
 follows_places s k P [] each o f = record { each = each; ended = subst IsOver (sym o) f }
 follows_places s k P (e ∷ es) each o f =
     follows_places s (after k e) (e ∷ P) es
-      (subst (λ h. Stands h s P e) (sym o) (meets_stands k s P e f.0), each)
-      (ap (λ h. goes_on h s P e) o ∙ meets_after k s P e f.0)
-      f.1
+    (subst (λ h. Stands h s P e) (sym o) (meets_stands k s P e f.0), each)
+    (ap (λ h. goes_on h s P e) o ∙ meets_after k s P e f.0)
+    f.1
 
 group_places : (s : HostSpec) (P g : List Entry) → ByPlaces s P → Group s P g → ByPlaces s (onto g P)
 group_places s P [] p f = absurd f
 group_places s P (e ∷ es) p f =
     let o : owed s P ≡ over = over_is (owed s P) p.ended in
     follows_places s (course s P e) (e ∷ P) es
-      (subst (λ h. Stands h s P e) (sym o) f.0, p.each)
-      (ap (λ h. goes_on h s P e) o)
-      f.1
+    (subst (λ h. Stands h s P e) (sym o) f.0, p.each)
+    (ap (λ h. goes_on h s P e) o)
+    f.1
 
 groups_places : (s : HostSpec) (gs : List (List Entry)) → AreGroups s gs → ByPlaces s (entries_of gs)
 groups_places s [] a = record { each = tt; ended = tt }
@@ -50,13 +50,11 @@ groups_places s (g ∷ gs) a = group_places s (entries_of gs) g (groups_places s
 pub by_places : (s : HostSpec) (P : List Entry) → ByGroups s P → ByPlaces s P
 by_places s P legal = subst (ByPlaces s) legal.entries (groups_places s legal.groups legal.each)
 
-
-
 -- P is whole groups, or whole groups and a part of one of which k is left
 data Parsed (s : HostSpec) (P : List Entry) (k : Course) : Type 0 where
   whole : (gs : List (List Entry)) → AreGroups s gs → entries_of gs ≡ P → k ≡ over → Parsed s P k
   partly : (gs : List (List Entry)) → AreGroups s gs → (part : List Entry) → onto part (entries_of gs) ≡ P
-    → ((es : List Entry) → Follows k es → Group s (entries_of gs) (part ++ es)) → Parsed s P k
+      → ((es : List Entry) → Follows k es → Group s (entries_of gs) (part ++ es)) → Parsed s P k
 
 onto_more : (g : List Entry) (e : Entry) (P : List Entry) → onto (g ++ e ∷ []) P ≡ e ∷ onto g P
 onto_more [] e P = refl
@@ -72,7 +70,7 @@ went_on : (s : HostSpec) (P : List Entry) (k : Course) (e : Entry) → Meets k e
 went_on s P k e m (whole gs a q o) = absurd (subst (λ h. Meets h e) o m)
 went_on s P k e m (partly gs a part q f) =
     partly gs a (part ++ e ∷ []) (onto_more part e (entries_of gs) ∙ ap (λ Q. e ∷ Q) q)
-      (λ es h. subst (Group s (entries_of gs)) (sym (append_assoc part (e ∷ []) es)) (f (e ∷ es) (m, h)))
+    (λ es h. subst (Group s (entries_of gs)) (sym (append_assoc part (e ∷ []) es)) (f (e ∷ es) (m, h)))
 
 append_nil : (g : List Entry) → g ++ [] ≡ g
 append_nil [] = refl

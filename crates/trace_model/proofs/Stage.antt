@@ -105,6 +105,7 @@ filter_other c d n (f ∷ fs) ne h = ⊎_elim
     or_right : (a b : Bool) → b ≡ true → a || b ≡ true
     or_right true b h = refl
     or_right false b h = h
+
     or_either : (a x y : Bool) → (x ≡ true → y ≡ true) → a || x ≡ true → a || y ≡ true
     or_either true x y f h = refl
     or_either false x y f h = f h
@@ -132,9 +133,11 @@ told_failing c P d a fail n h = ⊎_elim
 pub owned_live : (c : ℕ) (P : List Entry) (m : Attempt) (by : By) → is_open m.0 P ≡ true → Live c P (stage c P) → Live c (Owned m by ∷ P) (stage c (Owned m by ∷ P))
 owned_live c P m by was live n e = ⊎_elim
     (λ yes. let here : stage c P ≡ out m.0 = (live m.0 (subst (λ k. sent_for k P ≡ c) (sym yes.1) e)).0 was in
-      let o : own m.0 (stage c P) ≡ owned n = ap (own m.0) here ∙ rw (eq-eqb m.0 m.0 refl) (ap owned yes.1) in
-      (λ h. absurd (cc (rw yes.0 at h)), λ h. o, λ h. absurd (cc (sym here ∙ subst (λ k. stage c P ≡ aborting k) (sym yes.1) ((live n e).2 h)))))
-    (λ no. (λ h. ap (own m.0) ((live n e).0 (rw no.0 at h)) ∙ rw no.0 refl,
-            λ h. ap (own m.0) ((live n e).1 (rw no.0 at h)),
-            λ h. ap (own m.0) ((live n e).2 h)))
+    let o : own m.0 (stage c P) ≡ owned n = ap (own m.0) here ∙ rw (eq-eqb m.0 m.0 refl) (ap owned yes.1) in
+    (λ h. absurd (cc (rw yes.0 at h)), λ h. o, λ h. absurd (cc (sym here ∙ subst (λ k. stage c P ≡ aborting k) (sym yes.1) ((live n e).2 h)))))
+    (λ no. (
+      λ h. ap (own m.0) ((live n e).0 (rw no.0 at h)) ∙ rw no.0 refl,
+      λ h. ap (own m.0) ((live n e).1 (rw no.0 at h)),
+      λ h. ap (own m.0) ((live n e).2 h),
+    ))
     (eqb_tells m.0 n)

@@ -37,8 +37,8 @@ abbrev pub tests : List DevAddr → (List DevAddr → Course) → Course
 tests [] k = k []
 tests (d ∷ ds) k =
     ask d test_unit_ready None (λ say.
-      if is_doubtful say then ask d test_unit_ready None (λ again. tests ds (λ ready. k (kept_if again d ready)))
-      else tests ds (λ ready. k (kept_if say d ready)))
+    if is_doubtful say then ask d test_unit_ready None (λ again. tests ds (λ ready. k (kept_if again d ready)))
+    else tests ds (λ ready. k (kept_if say d ready)))
 
 -- the commands are cleared, in the order of the list
 abbrev pub clear : ℕ → List Todo → Course
@@ -66,7 +66,7 @@ fetch_for ok [] = over
 fetch_for false (x ∷ xs) = ask x.dev request_sense None (λ say. over)
 fetch_for true (x ∷ xs) =
     ask x.dev request_sense (Some true) (λ say.
-      fetch x.cmd x.attempt (λ sense. judge_again x (disp_again x.cx (option_map (with_sense sense) x.answer))))
+    fetch x.cmd x.attempt (λ sense. judge_again x (disp_again x.cx (option_map (with_sense sense) x.answer))))
 
 -- level 3
 abbrev pub start_for : Bool → List Todo → Course

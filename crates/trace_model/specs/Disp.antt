@@ -1,6 +1,6 @@
 -- The disposition of an answer: finished, retried, queued again, or given to the error handler (scsi_eh.rst, "Completing a
 -- scmd w/ scsi_done"). The table is this project's own, in outline after Linux.
-use Rattle.std.specs.Prelude.{ℕ, ◌==◌, Bool, true, false, not, ◌&&◌, ◌||◌, List, [], ◌∷◌, if◌then◌else◌, length, nat_le, nat_lt, slice_index, bit_and}
+use Rattle.std.specs.Prelude.{ℕ, ◌==◌, Bool, true, false, not, ◌&&◌, ◌||◌, List, [], ◌∷◌, if◌then◌else◌, nat_lt}
 use Rattle.mid_base.specs.Bytes.{sense_list}
 use Rattle.sense_data.specs.Grammar.{is_valid_sense, sense_key, sense_asc, sense_ascq, is_deferred}
 use Rattle.mid_base.specs.declared.answers.Answer.{Answer}

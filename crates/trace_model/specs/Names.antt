@@ -1,5 +1,5 @@
 -- Addresses, answers, and what a spec says of a command or a device.
-use Rattle.std.specs.Prelude.{ℕ, ◌+◌, ◌*◌, ◌==◌, Bool, true, false, not, ◌&&◌, List, [], ◌∷◌, if◌then◌else◌, Option, None, Some, replicate, bit_and}
+use Rattle.std.specs.Prelude.{ℕ, ◌+◌, ◌*◌, ◌==◌, Bool, false, not, ◌&&◌, List, [], ◌∷◌, if◌then◌else◌, Option, None, Some, replicate, bit_and}
 use Rattle.mid_base.specs.Padded.{empty_padded}
 use Rattle.mid_base.specs.Bytes.{no_sense}
 use Rattle.mid_base.specs.Address.{same_dev}

@@ -9,41 +9,34 @@ ghost use Rattle.trace_model.specs.Legal.{Legal, LegalByPlaces};
 /// A journal of groups, each an entry with those that follow it at once, is legal place by place.
 pub fn groups_are_places()
     ensures { (s : HostSpec) (journal : List Entry) → Legal s journal → LegalByPlaces s journal }
-{
-}
+{}
 
 /// A journal that is legal place by place is one of groups.
 pub fn places_are_groups()
     ensures { (s : HostSpec) (journal : List Entry) → LegalByPlaces s journal → Legal s journal }
-{
-}
+{}
 
 /// Completion and timeout never both own an attempt.
 pub fn each_attempt_has_one_owner()
     ensures { (s : HostSpec) (journal : List Entry) (n : ℕ) → LegalByPlaces s journal → owners n (reverse journal) ≤ 1 }
-{
-}
+{}
 
 /// Recovery acts only while each busy command is failed (`scsi_eh.rst`, "How SCSI EH works").
 pub fn acts_are_quiet()
     ensures { (s : HostSpec) (journal : List Entry) → LegalByPlaces s journal → QuietActs s (reverse journal) }
-{
-}
+{}
 
 /// No command is reported twice.
 pub fn each_command_is_told_once()
     ensures { (s : HostSpec) (journal : List Entry) (c : ℕ) → LegalByPlaces s journal → tellings c (reverse journal) ≤ 1 }
-{
-}
+{}
 
 /// Nothing of a command stands after its report.
 pub fn nothing_follows_a_report()
     ensures { (s : HostSpec) (journal : List Entry) (c : ℕ) → LegalByPlaces s journal → NoneAfterTold c (reverse journal) }
-{
-}
+{}
 
 /// What a legal journal promises whoever hands commands in, all at once.
 pub fn legal_journals_keep_the_headline()
     ensures { (s : HostSpec) (journal : List Entry) → Legal s journal → Headline s journal }
-{
-}
+{}
