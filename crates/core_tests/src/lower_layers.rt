@@ -12,7 +12,7 @@ pub(crate) struct Planned {
     pub left: u8,
 }
 
-pub(crate) fn planned(busy: u8, copies: u8) -> Planned {
+pub(crate) fn lower_of(busy: u8, copies: u8) -> Planned {
     Planned {
         busy,
         copies,
