@@ -1,0 +1,36 @@
+ghost use Rattle.std.specs.Prelude.{reverse};
+ghost use Rattle.mid_core.specs.View.{IsBuiltAt};
+ghost use Rattle.mid_base.specs.declared.steps.Step.TheVariants as steps;
+ghost use Rattle.core_tests.specs.Facts.{WhereDone, Grows, Owns, Frees, KeepsTags, MovesNoTag};
+
+use host_template::HostTemplate;
+use mid_base::{Attempt, By, Did, NoMemory, Step};
+use mid_core::Core;
+
+/// Gives an attempt to its answer. Where that is done, one tag that was armed with the attempt is owned, and no other tag
+/// has changed.
+pub fn gave_to_answer<A: HostTemplate>(core: &mut Core<A>, n: Attempt) -> Result<Did, NoMemory>
+    ensures grows { Grows core.old core.new }
+    ensures owns { WhereDone result (Owns core.old core.new n) }
+{
+    core.step(Step::Own(n, By::Answer))
+}
+
+/// Settles an attempt whose answer is GOOD. Where that is done, one tag that was owned is free, and no other tag has
+/// changed.
+pub fn settled<A: HostTemplate>(core: &mut Core<A>, n: Attempt) -> Result<Did, NoMemory>
+    requires { IsBuiltAt (reverse core.old.journal) (steps.Settle n) }
+    ensures grows { Grows core.old core.new }
+    ensures frees { WhereDone result (Frees core.old core.new n) }
+{
+    core.step(Step::Settle(n))
+}
+
+/// Makes a step that neither sends, owns nor settles. No tag has changed, whatever came of it.
+pub fn made_no_tag_step<A: HostTemplate>(core: &mut Core<A>, step: Step) -> Result<Did, NoMemory>
+    requires { MovesNoTag step }
+    ensures grows { Grows core.old core.new }
+    ensures tags { KeepsTags core.old core.new }
+{
+    core.step(step)
+}
