@@ -1,5 +1,3 @@
-ghost use Rattle.std.specs.Prelude.{⊤, nat_lt};
-
 use host_template::{HostTemplate, Queued};
 use mid_base::{Answer, Attempt, CdbBytes, DevAddr, HostByte, NoMemory, SenseBytes, Tick};
 
