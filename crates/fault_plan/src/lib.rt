@@ -1,0 +1,15 @@
+//! The faults that are planned for a simulated lower layer: which of them a call meets.
+//!
+//! `take` gives the fault of the first entry of a plan that hits the call with a given number. No call takes memory.
+//! `specs/Plan.antt` says of which class each fault is, which numbers an entry hits, and which fault of a plan is taken.
+#![tactic(auto)]
+
+mod class;
+mod laws;
+mod plan;
+#[cfg(test)]
+mod tests;
+
+pub use class::Class;
+pub use laws::hits_are_the_numbers_of_the_entry;
+pub use plan::take;
