@@ -3,3 +3,4 @@ pub mod Bytes
 pub mod Address
 pub mod Past
 pub mod Limits
+pub mod Codes

@@ -85,18 +85,18 @@ mod tests {
 
     #[test]
     fn bytes_come_back_and_equal_lists_are_equal_values(rt: HostRuntime) {
-        let mut bytes = [0u8; 252];
+        let mut counted = [0u8; 252];
         for i in 0..252 {
-            bytes[i] = i as u8;
+            counted[i] = i as u8;
         }
         for length in [1, 6, 16] {
-            let cdb = CdbBytes::from_slice(&bytes[..length]);
-            assert_eq!(rt; cdb.as_slice(), &bytes[..length], "{length} bytes");
+            let cdb = CdbBytes::from_slice(&counted[..length]);
+            assert_eq!(rt; cdb.as_slice(), &counted[..length], "{length} bytes");
             assert_eq!(rt; CdbBytes::from_slice(cdb.as_slice()), cdb, "{length} bytes");
         }
         for length in [0, 1, 18, 252] {
-            let sense = SenseBytes::from_slice(&bytes[..length]);
-            assert_eq!(rt; sense.as_slice(), &bytes[..length], "{length} bytes");
+            let sense = SenseBytes::from_slice(&counted[..length]);
+            assert_eq!(rt; sense.as_slice(), &counted[..length], "{length} bytes");
             assert_eq!(rt;
                 SenseBytes::from_slice(sense.as_slice()),
                 sense,

@@ -6,6 +6,7 @@
 
 mod answers;
 mod bytes;
+mod codes;
 mod entries;
 mod faults;
 mod host_spec;
@@ -17,11 +18,16 @@ mod steps;
 
 pub use answers::{Answer, BusyOf, By, Disp, NoMemory, ProbeSay, Scope, TagState};
 pub use bytes::{CdbBytes, SenseBytes};
+pub use codes::{
+    ACA_ACTIVE, BUSY, CHECK_CONDITION, CONDITION_MET, DID_ABORT, DID_BAD_TARGET, DID_BUS_BUSY,
+    DID_ERROR, DID_IMM_RETRY, DID_NO_CONNECT, DID_OK, DID_PARITY, DID_REQUEUE, DID_RESET,
+    DID_SOFT_ERROR, DID_TIME_OUT, GOOD, RESERVATION_CONFLICT, TASK_ABORTED, TASK_SET_FULL,
+};
 pub use entries::Entry;
 pub use faults::{Fault, PlanEntry};
 pub use host_spec::{CmdSpec, Handlers, HostSpec, LunSpec};
 pub use laws::{equal_cdb_lists_are_equal, equal_sense_lists_are_equal};
-pub use names::{Attempt, CmdId, DevAddr, HostByte, HostNo, LaneNo, Tag, Tick};
+pub use names::{Attempt, CmdId, DevAddr, HostByte, HostNo, LaneNo, Tag, Tick, same_dev};
 pub use rows::Rows;
 pub use states::{DeviceState, HostState};
 pub use steps::{Did, Step, Why};

@@ -1,3 +1,6 @@
+ghost use Rattle.std.specs.Prelude.{◌≡◌};
+ghost use Rattle.mid_base.specs.Address.{same_dev as same_dev_seen};
+
 // The names of things. Each is a number of its own kind, so that none is passed for another.
 
 /// A command of a script, 1 to 4,294,967,295. No two commands of a script share one.
@@ -33,7 +36,41 @@ pub struct DevAddr {
     pub lun: u16,
 }
 
+/// Whether two addresses are the same.
+pub fn same_dev(a: DevAddr, b: DevAddr) -> bool
+    ensures { result ≡ same_dev_seen a b }
+{
+    a.channel == b.channel && a.target == b.target && a.lun == b.lun
+}
+
 /// The host byte of an answer, which the host adapter's driver fills: 00h DID_OK, 01h DID_NO_CONNECT, 03h DID_TIME_OUT
 /// and so on, as the Linux kernel's `scsi_status.h` numbers them.
 #[derive(Clone, Copy, PartialEq, Eq, Debug)]
 pub struct HostByte(pub u8);
+
+#[cfg(test)]
+mod tests {
+    use super::*;
+
+    #[test]
+    fn addresses_differ_in_each_of_their_numbers(rt: HostRuntime) {
+        let here = DevAddr {
+            channel: 1,
+            target: 2,
+            lun: 3,
+        };
+        let others = [
+            DevAddr { channel: 0, ..here },
+            DevAddr { target: 3, ..here },
+            DevAddr { lun: 2, ..here },
+        ];
+        assert!(rt; same_dev(here, here));
+        for other in others {
+            assert!(rt;
+                !same_dev(here, other) && !same_dev(other, here),
+                "{}",
+                other.lun
+            );
+        }
+    }
+}

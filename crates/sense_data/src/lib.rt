@@ -10,6 +10,7 @@ mod codes;
 mod descriptors;
 mod faults;
 mod laws;
+mod senses;
 #[cfg(test)]
 mod tests;
 mod view;
@@ -18,4 +19,12 @@ pub use builders::{build_descriptor, build_fixed};
 pub use descriptors::Descriptors;
 pub use faults::SenseFault;
 pub use laws::{descriptor_sense_reads_back, descriptors_fill_the_sense, fixed_sense_reads_back};
+pub use senses::{
+    ABORTED_COMMAND, ADDRESS_MARK_NOT_FOUND, BECOMING_READY, BLANK_CHECK,
+    BLOCK_ADDRESS_OUT_OF_RANGE, COMPLETED, COPY_ABORTED, DATA_PROTECT, HARDWARE_ERROR,
+    ILLEGAL_REQUEST, INITIALIZING_COMMAND_REQUIRED, INVALID_COMMAND_OPERATION_CODE,
+    INVALID_FIELD_IN_CDB, MEDIUM_ERROR, MISCOMPARE, NO_ADDITIONAL_SENSE, NO_SENSE, NOT_READY,
+    RECORDED_ENTITY_NOT_FOUND, RECOVERED_ERROR, RESET_OCCURRED, UNIT_ATTENTION,
+    UNRECOVERED_READ_ERROR, VENDOR_SPECIFIC, VOLUME_OVERFLOW, WRITE_PROTECTED,
+};
 pub use view::SenseView;
