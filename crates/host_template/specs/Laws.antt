@@ -4,7 +4,7 @@ use Rattle.mid_base.specs.declared.entries.Entry.{Entry}
 use Rattle.mid_base.specs.declared.entries.Entry.TheVariants.{Sent, Bounced, Ready, Due, Longer, DoneSaid, Aborted, Sensed, Act, Probe, Tick}
 use Rattle.mid_base.specs.declared.host_spec.HostSpec.{HostSpec}
 use Rattle.mid_base.specs.Past.{ticks}
-use Rattle.host_template.specs.Handlers.{has_level}
+use Rattle.mid_base.specs.Callbacks.{has_level}
 use Rattle.host_template.specs.Standing.{Before, Standing}
 
 -- The entry tells nothing of a lower layer: it comes of none of its calls. An abort or a reset without its callback isn't
@@ -16,12 +16,12 @@ IsSilent s (Ready n a) = ⊥
 IsSilent s (Due n) = ⊥
 IsSilent s (Longer n) = ⊥
 IsSilent s (DoneSaid n) = ⊥
-IsSilent s (Aborted c n ok) = (has_level s 2 ≡ false) × (ok ≡ false)
+IsSilent s (Aborted c n ok) = (has_level s.handlers 2 ≡ false) × (ok ≡ false)
 IsSilent s (Sensed c n bytes) = ⊥
 IsSilent s (Probe d code say) = ⊥
 IsSilent s Tick = ⊥
 IsSilent s (Act level scope ok) = (level ≡ 3) ⊎ (level ≡ 8)
-    ⊎ ((has_level s level ≡ false) × (ok ≡ false) × ((level ≡ 2) ⊎ (level ≡ 4) ⊎ (level ≡ 5) ⊎ (level ≡ 6) ⊎ (level ≡ 7)))
+    ⊎ ((has_level s.handlers level ≡ false) × (ok ≡ false) × ((level ≡ 2) ⊎ (level ≡ 4) ⊎ (level ≡ 5) ⊎ (level ≡ 6) ⊎ (level ≡ 7)))
 IsSilent s _ = Unit {0}
 
 abbrev pub SilentLaw : Standing → Type 0

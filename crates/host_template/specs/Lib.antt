@@ -1,4 +1,3 @@
-pub mod Handlers
 pub mod Standing
 pub mod Calls
 pub mod Laws
