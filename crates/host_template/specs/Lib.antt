@@ -1,3 +1,5 @@
 pub mod Standing
+pub mod Meaning
+pub mod Probes
 pub mod Calls
 pub mod Laws
