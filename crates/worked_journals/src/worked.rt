@@ -1,14 +1,14 @@
 // Worked journals, so that a reader, and the check, see that the definitions say what is meant. Of a wrong one the clause
 // says that its last entry is the first that may not stand.
 ghost use Rattle.trace_model.specs.Legal.{LegalByPlaces, FirstWrong};
-ghost use Rattle.trace_model.specs.Worked.BothOwn.{both_own, both_own_spec};
-ghost use Rattle.trace_model.specs.Worked.ExpiryWins.{expiry_wins, expiry_wins_spec};
-ghost use Rattle.trace_model.specs.Worked.NoCallbacks.{no_callbacks, no_callbacks_spec};
-ghost use Rattle.trace_model.specs.Worked.SkipsLevels.{skips_levels, skips_levels_spec};
-ghost use Rattle.trace_model.specs.Worked.TooSoon.{too_soon, too_soon_spec};
-ghost use Rattle.trace_model.specs.Worked.TwoRecovered.{two_recovered, two_recovered_spec};
-ghost use Rattle.trace_model.specs.Worked.Unclaimed.{unclaimed, unclaimed_spec};
-ghost use Rattle.trace_model.specs.Worked.Untold.{untold, untold_spec};
+ghost use Rattle.worked_journals.specs.BothOwn.{both_own, both_own_spec};
+ghost use Rattle.worked_journals.specs.ExpiryWins.{expiry_wins, expiry_wins_spec};
+ghost use Rattle.worked_journals.specs.NoCallbacks.{no_callbacks, no_callbacks_spec};
+ghost use Rattle.worked_journals.specs.SkipsLevels.{skips_levels, skips_levels_spec};
+ghost use Rattle.worked_journals.specs.TooSoon.{too_soon, too_soon_spec};
+ghost use Rattle.worked_journals.specs.TwoRecovered.{two_recovered, two_recovered_spec};
+ghost use Rattle.worked_journals.specs.Unclaimed.{unclaimed, unclaimed_spec};
+ghost use Rattle.worked_journals.specs.Untold.{untold, untold_spec};
 
 /// The expired timer owns the attempt; its answer is ignored, its abort succeeds and the command goes again.
 pub fn expiry_wins_is_legal()

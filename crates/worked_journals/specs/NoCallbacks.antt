@@ -6,7 +6,7 @@ use Rattle.mid_base.specs.declared.answers.Scope.TheVariants.{Dev, Target, Bus, 
 use Rattle.mid_base.specs.declared.entries.Entry.{Entry}
 use Rattle.mid_base.specs.declared.entries.Entry.TheVariants.{Took, Sent, Due, Owned, AbortSet, Aborted, Failed, Cleared, Told, EhBegin, EhEnd, Act, Offline, Tick}
 use Rattle.mid_base.specs.declared.host_spec.HostSpec.{HostSpec}
-use Rattle.trace_model.specs.Worked.{at, test_unit, lun, host}
+use Rattle.worked_journals.specs.Parts.{at, test_unit, lun, host}
 
 abbrev pub no_callbacks_spec : HostSpec
 no_callbacks_spec = host 4 0 (lun 1 ∷ []) (test_unit 1 2 ∷ test_unit 2 2 ∷ [])

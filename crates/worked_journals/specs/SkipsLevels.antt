@@ -1,20 +1,20 @@
--- Recovery begins while command 2 is out.
+-- The ladder goes straight from device reset to host reset.
 use Rattle.std.specs.Prelude.{true, false, List, [], ◌∷◌}
 use Rattle.mid_base.specs.declared.answers.By.TheVariants.{Expiry as ByExpiry}
+use Rattle.mid_base.specs.declared.answers.Scope.TheVariants.{Dev, Host}
 use Rattle.mid_base.specs.declared.entries.Entry.{Entry}
-use Rattle.mid_base.specs.declared.entries.Entry.TheVariants.{Took, Sent, Due, Owned, AbortSet, Aborted, Failed, EhBegin, Tick}
+use Rattle.mid_base.specs.declared.entries.Entry.TheVariants.{Took, Sent, Due, Owned, AbortSet, Aborted, Failed, EhBegin, Act, Tick}
 use Rattle.mid_base.specs.declared.host_spec.HostSpec.{HostSpec}
-use Rattle.trace_model.specs.Worked.{test_unit, lun, host}
+use Rattle.worked_journals.specs.Parts.{at, test_unit, lun, host}
 
-abbrev pub too_soon_spec : HostSpec
-too_soon_spec = host 4 2 (lun 8 ∷ []) (test_unit 1 2 ∷ test_unit 2 4 ∷ [])
+abbrev pub skips_levels_spec : HostSpec
+skips_levels_spec = host 4 0 (lun 1 ∷ []) (test_unit 1 2 ∷ test_unit 2 2 ∷ [])
 
-abbrev pub too_soon : List Entry
-too_soon =
+abbrev pub skips_levels : List Entry
+skips_levels =
     Took (record { 0 = 1 }) ∷
     Took (record { 0 = 2 }) ∷
     Sent (record { 0 = 1 }) (record { 0 = 1 }) (record { 0 = 0 }) ∷
-    Sent (record { 0 = 2 }) (record { 0 = 2 }) (record { 0 = 1 }) ∷
     Tick ∷
     Tick ∷
     Due (record { 0 = 1 }) ∷
@@ -23,4 +23,6 @@ too_soon =
     Aborted (record { 0 = 1 }) (record { 0 = 1 }) false ∷
     Failed (record { 0 = 1 }) (record { 0 = 1 }) true ∷
     EhBegin ∷
+    Act 4 (Dev (at 0 0 0)) false ∷
+    Act 7 Host false ∷
     []

@@ -8,7 +8,7 @@ use Rattle.mid_base.specs.declared.answers.Scope.TheVariants.{Dev}
 use Rattle.mid_base.specs.declared.entries.Entry.{Entry}
 use Rattle.mid_base.specs.declared.entries.Entry.TheVariants.{Took, Sent, Ready, Due, Owned, Judged, AbortSet, Aborted, Failed, Cleared, Again, Told, EhBegin, EhEnd, Act, Probe, Tick}
 use Rattle.mid_base.specs.declared.host_spec.HostSpec.{HostSpec}
-use Rattle.trace_model.specs.Worked.{at, unit_attention, test_unit, lun, host}
+use Rattle.worked_journals.specs.Parts.{at, unit_attention, test_unit, lun, host}
 
 abbrev pub two_recovered_spec : HostSpec
 two_recovered_spec = host 4 2 (lun 8 ∷ []) (test_unit 1 2 ∷ test_unit 2 4 ∷ [])

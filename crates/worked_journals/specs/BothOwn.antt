@@ -5,7 +5,7 @@ use Rattle.mid_base.specs.declared.answers.By.TheVariants.{Answer as ByAnswer, E
 use Rattle.mid_base.specs.declared.entries.Entry.{Entry}
 use Rattle.mid_base.specs.declared.entries.Entry.TheVariants.{Took, Sent, Ready, Due, Owned, Tick}
 use Rattle.mid_base.specs.declared.host_spec.HostSpec.{HostSpec}
-use Rattle.trace_model.specs.Worked.{test_unit, lun, host}
+use Rattle.worked_journals.specs.Parts.{test_unit, lun, host}
 
 abbrev pub both_own_spec : HostSpec
 both_own_spec = host 1 31 (lun 8 ∷ []) (test_unit 1 2 ∷ [])

@@ -1,12 +1,4 @@
 -- Parts of the worked journals.
-pub mod ExpiryWins
-pub mod TwoRecovered
-pub mod NoCallbacks
-pub mod Untold
-pub mod SkipsLevels
-pub mod TooSoon
-pub mod BothOwn
-pub mod Unclaimed
 use Rattle.std.specs.Prelude.{◌≡◌, refl, ℕ, ◌≤◌, true, false, List, [], ◌∷◌, ◌++◌, replicate}
 use Rattle.std.proofs.Common.{arith}
 use Rattle.mid_base.specs.Padded.{IsPadded, padded_made}

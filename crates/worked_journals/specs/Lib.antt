@@ -1,0 +1,9 @@
+pub mod Parts
+pub mod BothOwn
+pub mod ExpiryWins
+pub mod NoCallbacks
+pub mod SkipsLevels
+pub mod TooSoon
+pub mod TwoRecovered
+pub mod Unclaimed
+pub mod Untold
