@@ -14,5 +14,6 @@ pub mod Rules
 pub mod Legal
 pub mod Drained
 pub mod Counts
+pub mod Permits
 pub mod Steps
 pub mod Headline
