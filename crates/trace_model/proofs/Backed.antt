@@ -1,5 +1,5 @@
 -- An answer is judged, also within recovery, only where it owns its attempt.
-use Rattle.std.proofs.Common.{zero, suc, ◌≡◌, ◌⊎◌, inl, inr, ◌||◌, if◌then◌else◌, ℕ, ◌+◌, ◌<◌, ◌==◌, Bool, true, false, not, ◌&&◌, cond, List, [], ◌∷◌, ◌++◌, Option, None, Some, refl, sym, ◌∙◌, ap, subst, arith, ⊎_elim, filter, map, find, is_some}
+use Rattle.std.proofs.Common.{zero, suc, ◌≡◌, ◌⊎◌, inl, inr, ◌||◌, if◌then◌else◌, ℕ, ◌==◌, Bool, true, false, not, ◌&&◌, cond, List, [], ◌∷◌, ◌++◌, Option, None, Some, refl, sym, ◌∙◌, ap, subst, ⊎_elim, filter, map, find}
 use Rattle.std.specs.Prelude.{⊤}
 use Rattle.std.specs.List.{list_all, list_any}
 use Rattle.std.proofs.lemmas.Bool.{eqb-true, eq-eqb, cases_Bool}
@@ -10,19 +10,16 @@ use Rattle.mid_base.specs.declared.names.Attempt.{Attempt}
 use Rattle.mid_base.specs.declared.names.DevAddr.{DevAddr}
 use Rattle.mid_base.specs.declared.answers.Answer.{Answer}
 use Rattle.mid_base.specs.declared.answers.By.{By}
-use Rattle.mid_base.specs.declared.answers.By.TheVariants.{Answer as ByAnswer, Expiry as ByExpiry}
 use Rattle.mid_base.specs.declared.answers.Disp.{Disp}
 use Rattle.mid_base.specs.declared.answers.Disp.TheVariants.{Success, Retry, Requeue, Fail}
 use Rattle.mid_base.specs.declared.answers.Scope.{Scope}
 use Rattle.mid_base.specs.declared.answers.Scope.TheVariants.{Cmd, Dev, Target, Bus, Host}
 use Rattle.mid_base.specs.declared.entries.Entry.{Entry}
-use Rattle.mid_base.specs.declared.entries.Entry.TheVariants.{Sent, Owned, Judged, Aborted, Failed, Cleared, Sensed, Again, Told, EhBegin, Act, Probe, Offline}
+use Rattle.mid_base.specs.declared.entries.Entry.TheVariants.{Owned, Judged, Aborted, Failed, Cleared, Sensed, Again, Told, EhBegin, Act, Probe, Offline}
 use Rattle.mid_base.specs.declared.host_spec.HostSpec.{HostSpec}
 use Rattle.disposition.specs.declared.todo.Todo.{Todo}
 use Rattle.disposition.specs.Ladder.{Level, fetch_sense, abort, start_unit, reset_device, reset_target, reset_bus, reset_host, give_up, no_level, level_of, is_in_scope, is_of_kind, devs, Pair, pairs, is_wanted_pair, same_pair, beyond_pair, beyond, next_of}
-use Rattle.trace_model.specs.Attempts.{is_open, owner, is_by_answer, is_settled, answer}
-use Rattle.trace_model.specs.Counts.{owners}
-use Rattle.trace_model.specs.Devices.{has_begun}
+use Rattle.trace_model.specs.Attempts.{owner, is_by_answer, is_settled, answer}
 use Rattle.mid_base.specs.Answers.{time_out}
 use Rattle.trace_model.specs.Judging.{to_judge, to_abort, has_abort_left, may_retry}
 use Rattle.trace_model.specs.Recovery.{Failure, failed, todo, listed, todo_of, is_cleared, last_act}
@@ -30,9 +27,9 @@ use Rattle.trace_model.specs.Course.{Course, over, next, ask, fetch, Meets, afte
 use Rattle.trace_model.specs.Climb.{tests, clear, test_and_clear, on_one_of, is_doubtful, kept_if, judge_again, fetch_for, start_for, offline_for, act_on}
 use Rattle.trace_model.specs.Rules.{MayJudge, Allowed, course, judged, is_lost}
 use Rattle.trace_model.specs.Legal.{goes_on, owed, Stands, EachStands}
-use Rattle.trace_model.proofs.Owes.{Owes, Calm, End, Owing, meets_owes, after_owes, owed_owing, is_calm, is_end}
+use Rattle.trace_model.proofs.Owes.{Owes, Calm, End, Owing, meets_owes, after_owes, owed_owing}
 use Rattle.trace_model.proofs.Owners.{owns_open, open_unowned}
-use Rattle.trace_model.proofs.Stage.{Stage, failing, stage, has_failure, Failing}
+use Rattle.trace_model.proofs.Stage.{Stage, failing, stage, has_failure}
 use Rattle.trace_model.proofs.Once.{and_left, and_right}
 use Rattle.trace_model.proofs.OnceMore.{held_all}
 
@@ -224,9 +221,9 @@ attested : (o : Owner) (fs : List Failure) (aborts : Bool) (c : CmdId) (all xs :
 attested o fs aborts c all [] h w = cc w
 attested o fs aborts c all (x ∷ xs) h w = ⊎_elim
     (λ yes.
-      let named : x.cmd.0 ≡ c.0 = eqb-true x.cmd.0 c.0 (and_left (x.cmd.0 == c.0) _ yes) in
-      let uncancelled : x.cancelled ≡ false = plain x.cancelled (and_left (not x.cancelled) _ (and_right (x.cmd.0 == c.0) _ yes)) in
-      (x.n.0, subst (λ (k : ℕ). has_failure k x.n.0 fs ≡ true) named h.0.0, h.0.1 uncancelled))
+    let named : x.cmd.0 ≡ c.0 = eqb-true x.cmd.0 c.0 (and_left (x.cmd.0 == c.0) _ yes) in
+    let uncancelled : x.cancelled ≡ false = plain x.cancelled (and_left (not x.cancelled) _ (and_right (x.cmd.0 == c.0) _ yes)) in
+    (x.n.0, subst (λ (k : ℕ). has_failure k x.n.0 fs ≡ true) named h.0.0, h.0.1 uncancelled))
     (λ no. attested o fs aborts c all xs h.1 (rw no at w))
     (cases_Bool (is_in_scope (Cmd c) x && is_of_kind aborts fetch_sense all x))
   where
@@ -242,8 +239,8 @@ scoped : (o : Owner) (fs : List Failure) (c : CmdId) (xs : List Todo) → Single
 scoped o fs c [] single a h = tt
 scoped o fs c (x ∷ xs) single a h = ⊎_elim
     (λ yes.
-      let here : has_failure c.0 x.n.0 fs ≡ true = subst (λ (k : ℕ). has_failure k x.n.0 fs ≡ true) (eqb-true x.cmd.0 c.0 yes) h.0.0 in
-      rw yes (subst (λ (n : ℕ). is_by_answer (o n) ≡ true) (single c.0 a.0 x.n.0 a.1 here) a.2, scoped o fs c xs single a h.1))
+    let here : has_failure c.0 x.n.0 fs ≡ true = subst (λ (k : ℕ). has_failure k x.n.0 fs ≡ true) (eqb-true x.cmd.0 c.0 yes) h.0.0 in
+    rw yes (subst (λ (n : ℕ). is_by_answer (o n) ≡ true) (single c.0 a.0 x.n.0 a.1 here) a.2, scoped o fs c xs single a h.1))
     (λ no. rw no (scoped o fs c xs single a h.1))
     (cases_Bool (x.cmd.0 == c.0))
 

@@ -1,13 +1,13 @@
 -- An entry that is owed is never one that another rule forbids.
-use Rattle.std.proofs.Common.{◌≡◌, ◌⊎◌, true, List, [], ◌∷◌, ◌++◌, inl, inr, ⊎_elim}
+use Rattle.std.proofs.Common.{List, [], ◌∷◌, ◌++◌, ⊎_elim}
 use Rattle.mid_base.specs.declared.entries.Entry.{Entry}
 use Rattle.mid_base.specs.declared.entries.Entry.TheVariants.{Judged, Failed, Cleared, Sensed, Again, Told, Probe, Offline}
 use Rattle.mid_base.specs.declared.host_spec.HostSpec.{HostSpec}
 use Rattle.trace_model.specs.Attempts.{owner}
-use Rattle.trace_model.specs.Course.{Course, Meets}
+use Rattle.trace_model.specs.Course.{Meets}
 use Rattle.trace_model.specs.Legal.{owed, EachStands}
 use Rattle.trace_model.specs.Permits.{IsWithin, Permits}
-use Rattle.trace_model.proofs.Owes.{Owes, Calm, End, meets_owes}
+use Rattle.trace_model.proofs.Owes.{Calm, End, meets_owes}
 use Rattle.trace_model.proofs.Quiet.{owed_quiet}
 use Rattle.trace_model.proofs.Backed.{Backed, owed_backed}
 

@@ -9,7 +9,7 @@ use Rattle.mid_base.specs.declared.entries.Entry.TheVariants.{Judged, Aborted, C
 use Rattle.trace_model.specs.Devices.{has_begun}
 use Rattle.trace_model.specs.Commands.{standing, is_busy, failed_since_sent}
 use Rattle.trace_model.specs.Recovery.{is_quiet}
-use Rattle.trace_model.specs.Permits.{IsWithin, Permits}
+use Rattle.trace_model.specs.Permits.{IsWithin}
 use Rattle.trace_model.specs.Counts.{busy_count, failed_count, is_acting, QuietActs}
 use Rattle.trace_model.specs.Course.{Course, over, next, ask, fetch, Meets, after}
 use Rattle.trace_model.specs.Rules.{Allowed, course}

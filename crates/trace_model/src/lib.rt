@@ -11,7 +11,8 @@ mod standing;
 
 pub use booked::Booked;
 pub use laws::{
-    acts_are_quiet, beginnings_are_legal, each_attempt_has_one_owner, each_command_is_told_once, groups_are_places,
-    legal_journals_keep_the_headline, nothing_follows_a_report, owed_entries_are_permitted, places_are_groups,
+    acts_are_quiet, beginnings_are_legal, each_attempt_has_one_owner, each_command_is_told_once,
+    groups_are_places, legal_journals_keep_the_headline, nothing_follows_a_report,
+    owed_entries_are_permitted, places_are_groups,
 };
 pub use standing::Standing;

@@ -1,5 +1,5 @@
 -- Parts of the worked journals.
-use Rattle.std.specs.Prelude.{◌≡◌, refl, ℕ, ◌≤◌, true, false, List, [], ◌∷◌, ◌++◌, replicate}
+use Rattle.std.specs.Prelude.{refl, ℕ, false, List, [], ◌∷◌, ◌++◌, replicate}
 use Rattle.std.proofs.Common.{arith}
 use Rattle.mid_base.specs.Padded.{IsPadded, padded_made}
 use Rattle.mid_base.specs.declared.bytes.CdbBytes.{CdbBytes}

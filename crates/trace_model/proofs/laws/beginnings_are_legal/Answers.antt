@@ -1,4 +1,4 @@
-use Rattle.std.proofs.Common.{◌++◌, reverse, subst}
+use Rattle.std.proofs.Common.{reverse, subst}
 use Rattle.std.proofs.lemmas.List.{reverse-append}
 use Rattle.trace_model.specs.Legal.{EachStands}
 use Rattle.trace_model.proofs.Permitted.{each_before}
