@@ -2,7 +2,7 @@
 //!
 //! A command is busy from its sending on until it is given back or goes again. One that can't be given back without
 //! recovery is linked on the failed list, and stays busy. The recovery thread starts when all busy commands have failed
-//! (the kernel's `scsi_eh.rst`, 1-4 and 2: `shost->host_failed` equals the count of busy commands).
+//! (the kernel's `scsi_eh.rst`, 1-4: where `host_busy` equals `host_failed`).
 //!
 //! `EhQueue` keeps the count and the list. All its room is taken when it is made; no later call takes memory.
 #![tactic(auto)]
