@@ -149,6 +149,7 @@ fn listed(select: u8, luns: &[u16]) -> &[u16]
     if select == WELL_KNOWN { &[] } else { luns }
 }
 
+#[tactic(auto, using(crate::proofs::Lists::take_list))]
 fn report_luns(select: u8, alloc: u32, luns: &[u16], buf: &mut [u8]) -> Answer
     requires count { length luns.now ≤ 256 }
     requires numbers { All (λ n. n ≤ 16383) luns.now }
