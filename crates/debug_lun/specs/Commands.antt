@@ -1,5 +1,5 @@
 -- The command in a block, and the kinds of commands that the rules of a logical unit speak of.
-use Rattle.std.specs.Prelude.{ℕ, ◌+◌, ◌==◌, List, drop, slice_index, Option, Some, None, Result, Ok, Err, Bool, true, false, if◌then◌else◌}
+use Rattle.std.specs.Prelude.{ℕ, ◌==◌, List, drop, slice_index, Option, Some, None, Result, Ok, Err, Bool, true, false, if◌then◌else◌}
 use Rattle.byteorder.specs.Endian.{big_number}
 use Rattle.cdb_codec.specs.declared.cdb.Cdb.{Cdb}
 use Rattle.cdb_codec.specs.declared.cdb.Cdb.TheVariants.{TestUnitReady, RequestSense, Read6, Write6, Inquiry, StartStop, ReadCapacity10, Read10, Write10, SyncCache10, Read16, Write16, ReportLuns}

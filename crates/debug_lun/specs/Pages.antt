@@ -1,5 +1,5 @@
 -- The data that commands other than reads give, before an allocation length cuts them.
-use Rattle.std.specs.Prelude.{ℕ, ◌-◌, ◌==◌, List, [], ◌∷◌, ◌++◌, length, Option, None, Bool, true, false, not, if◌then◌else◌, nat_lt, codes, decimal}
+use Rattle.std.specs.Prelude.{ℕ, ◌-◌, ◌==◌, List, [], ◌∷◌, ◌++◌, length, None, Bool, true, false, not, if◌then◌else◌, nat_lt, codes, decimal}
 use Rattle.std.specs.Int.{bytes_high_first}
 use Rattle.mid_base.specs.declared.names.DevAddr.{DevAddr}
 use Rattle.cdb_codec.specs.declared.cdb.Cdb.{Cdb}

@@ -1,5 +1,5 @@
 -- How a logical unit serves a command: what refuses it, tried in order, and what it does and gives otherwise.
-use Rattle.std.specs.Prelude.{◌≡◌, ℕ, ◌+◌, ◌*◌, ◌%◌, ◌==◌, List, [], ◌∷◌, ◌++◌, length, take, drop, sum, Option, Some, None, is_none, Result, Ok, Err, Bool, true, false, not, ◌&&◌, if◌then◌else◌, nat_lt}
+use Rattle.std.specs.Prelude.{ℕ, ◌+◌, ◌*◌, ◌%◌, ◌==◌, List, [], ◌∷◌, ◌++◌, length, take, drop, sum, Option, Some, None, is_none, Result, Ok, Err, Bool, true, false, not, ◌&&◌, if◌then◌else◌, nat_lt}
 use Rattle.mid_base.specs.Codes.{did_ok, good, check_condition}
 use Rattle.cdb_codec.specs.declared.cdb.Cdb.{Cdb}
 use Rattle.cdb_codec.specs.declared.cdb.Cdb.TheVariants.{RequestSense, Inquiry, StartStop, ReadCapacity10, ReportLuns}
@@ -49,12 +49,12 @@ takes u k bytes = record { unit = record u { contents = with_bytes u.contents k 
 abbrev pub refusals : LogicalUnit → Cdb → List (Bool × Sense)
 refusals u c =
     (u.attention && not (passes_attention c), sense unit_attention reset_occurred)
-  ∷ (not u.started && needs_start c, sense not_ready initializing_command_required)
-  ∷ (u.write_protected && is_write c, sense data_protect write_protected)
-  ∷ ((if is_read c then true else is_write c) && nat_lt 256 (block_count c), sense illegal_request invalid_field_in_cdb)
-  ∷ (nat_lt u.blocks (first_block c + block_count c), sense illegal_request block_address_out_of_range)
-  ∷ (is_unknown_page c, sense illegal_request invalid_field_in_cdb)
-  ∷ []
+    ∷ (not u.started && needs_start c, sense not_ready initializing_command_required)
+    ∷ (u.write_protected && is_write c, sense data_protect write_protected)
+    ∷ ((if is_read c then true else is_write c) && nat_lt 256 (block_count c), sense illegal_request invalid_field_in_cdb)
+    ∷ (nat_lt u.blocks (first_block c + block_count c), sense illegal_request block_address_out_of_range)
+    ∷ (is_unknown_page c, sense illegal_request invalid_field_in_cdb)
+    ∷ []
 
 abbrev pub first_refusal : List (Bool × Sense) → Option Sense
 first_refusal [] = None

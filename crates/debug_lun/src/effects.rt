@@ -64,7 +64,12 @@ impl DebugLun {
     {
         match *c {
             Cdb::RequestSense { desc, alloc, .. } => self.request_sense(desc, alloc, buf),
-            Cdb::Inquiry { evpd, page, alloc, .. } => self.inquiry(evpd, page, alloc, buf),
+            Cdb::Inquiry {
+                evpd,
+                page,
+                alloc,
+                ..
+            } => self.inquiry(evpd, page, alloc, buf),
             Cdb::StartStop { bits, .. } => {
                 self.started = bits % 2 == 1;
                 good(&[])

@@ -15,6 +15,8 @@ mod replies;
 mod sense_code;
 mod serving;
 mod states;
+#[cfg(test)]
+mod tests;
 
 pub use laws::spelled_commands_are_read;
 pub use lun::DebugLun;

@@ -5,7 +5,9 @@ ghost use Rattle.debug_lun.specs.Commands.{read_command as read_command_of};
 ghost use Rattle.debug_lun.specs.Serving.{serve, run, is_accepted_write, placed};
 
 use crate::DebugLun;
-use crate::commands::{block_count, first_block, is_read, is_write, passes_attention, read_command};
+use crate::commands::{
+    block_count, first_block, is_read, is_write, passes_attention, read_command,
+};
 use crate::replies::check;
 use cdb_codec::Cdb;
 use mid_base::{Answer, CdbBytes, NoMemory};
