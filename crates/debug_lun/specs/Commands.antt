@@ -1,5 +1,5 @@
 -- The command in a block, and the kinds of commands that the rules of a logical unit speak of.
-use Rattle.std.specs.Prelude.{ℕ, ◌==◌, List, drop, slice_index, Option, Some, None, Result, Ok, Err, Bool, true, false, if◌then◌else◌}
+use Rattle.std.specs.Prelude.{ℕ, ◌==◌, ◌||◌, List, drop, slice_index, Option, Some, None, Result, Ok, Err, Bool, true, false, if◌then◌else◌}
 use Rattle.byteorder.specs.Endian.{big_number}
 use Rattle.cdb_codec.specs.declared.cdb.Cdb.{Cdb}
 use Rattle.cdb_codec.specs.declared.cdb.Cdb.TheVariants.{TestUnitReady, RequestSense, Read6, Write6, Inquiry, StartStop, ReadCapacity10, Read10, Write10, SyncCache10, Read16, Write16, ReportLuns}
@@ -68,12 +68,15 @@ is_write (Write10 flags lba group len control) = true
 is_write (Write16 flags lba len group control) = true
 is_write _ = false
 
+abbrev pub moves_blocks : Cdb → Bool
+moves_blocks c = is_read c || is_write c
+
 -- a unit that is stopped serves none of these
 abbrev pub needs_start : Cdb → Bool
 needs_start (TestUnitReady control) = true
 needs_start (ReadCapacity10 control) = true
 needs_start (SyncCache10 flags lba group len control) = true
-needs_start c = if is_read c then true else is_write c
+needs_start c = moves_blocks c
 
 -- SBC-3, READ(6) and WRITE(6): a TRANSFER LENGTH of 0 means 256 blocks
 abbrev pub short_count : ℕ → ℕ

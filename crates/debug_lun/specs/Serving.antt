@@ -1,5 +1,5 @@
 -- How a logical unit serves a command: what refuses it, tried in order, and what it does and gives otherwise.
-use Rattle.std.specs.Prelude.{ℕ, ◌+◌, ◌*◌, ◌%◌, ◌==◌, List, [], ◌∷◌, ◌++◌, length, take, drop, sum, Option, Some, None, is_none, Result, Ok, Err, Bool, true, false, not, ◌&&◌, if◌then◌else◌, nat_lt}
+use Rattle.std.specs.Prelude.{◌≡◌, ℕ, ◌+◌, ◌*◌, ◌%◌, ◌==◌, List, [], ◌∷◌, ◌++◌, length, take, drop, sum, Option, Some, None, is_none, Result, Ok, Err, Bool, true, false, not, ◌&&◌, if◌then◌else◌, nat_lt}
 use Rattle.mid_base.specs.Codes.{did_ok, good, check_condition}
 use Rattle.cdb_codec.specs.declared.cdb.Cdb.{Cdb}
 use Rattle.cdb_codec.specs.declared.cdb.Cdb.TheVariants.{RequestSense, Inquiry, StartStop, ReadCapacity10, ReportLuns}
@@ -8,7 +8,7 @@ use Rattle.lun_addr.specs.Grammar.{lun_list}
 use Rattle.block_store.specs.Blocks.{bytes_from, with_bytes}
 use Rattle.debug_lun.specs.declared.sense_code.Sense.{Sense}
 use Rattle.debug_lun.specs.Units.{LogicalUnit, Reply}
-use Rattle.debug_lun.specs.Commands.{sense, read_command, passes_attention, needs_start, is_read, is_write, first_block, block_count}
+use Rattle.debug_lun.specs.Commands.{sense, read_command, passes_attention, needs_start, is_read, is_write, moves_blocks, first_block, block_count}
 use Rattle.debug_lun.specs.Pages.{sense_bytes, inquiry, is_unknown_page, capacity, listed_units}
 
 -- the unit after a command, the answer, and the bytes that came in
@@ -51,7 +51,7 @@ refusals u c =
     (u.attention && not (passes_attention c), sense unit_attention reset_occurred)
     ∷ (not u.started && needs_start c, sense not_ready initializing_command_required)
     ∷ (u.write_protected && is_write c, sense data_protect write_protected)
-    ∷ ((if is_read c then true else is_write c) && nat_lt 256 (block_count c), sense illegal_request invalid_field_in_cdb)
+    ∷ (moves_blocks c && nat_lt 256 (block_count c), sense illegal_request invalid_field_in_cdb)
     ∷ (nat_lt u.blocks (first_block c + block_count c), sense illegal_request block_address_out_of_range)
     ∷ (is_unknown_page c, sense illegal_request invalid_field_in_cdb)
     ∷ []
@@ -116,3 +116,8 @@ serve u cdb luns out = run_read u luns out (read_command cdb)
 abbrev pub is_accepted_write : LogicalUnit → Result Cdb Sense → Bool
 is_accepted_write u (Err s) = false
 is_accepted_write u (Ok c) = is_write c && is_none (first_refusal (refusals u c))
+
+-- an answer says of its data-in how many bytes were moved and what their sum is; of a write, how many were written
+pub record TellsData (write : Bool) (s : Served) : Type 0 where
+  pub sum_is : s.reply.sum ≡ sum s.data_in
+  pub moved_is : write ≡ false → s.reply.moved ≡ length s.data_in

@@ -70,6 +70,7 @@ impl DebugLun {
                 alloc,
                 ..
             } => self.inquiry(evpd, page, alloc, buf),
+            // START is bit 0 (SBC-3, START STOP UNIT).
             Cdb::StartStop { bits, .. } => {
                 self.started = bits % 2 == 1;
                 good(&[])

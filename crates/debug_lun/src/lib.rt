@@ -18,6 +18,6 @@ mod states;
 #[cfg(test)]
 mod tests;
 
-pub use laws::spelled_commands_are_read;
+pub use laws::{answers_tell_their_data, spelled_commands_are_read};
 pub use lun::DebugLun;
 pub use sense_code::Sense;
