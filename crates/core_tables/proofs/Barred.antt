@@ -19,14 +19,16 @@ use Rattle.mid_base.specs.declared.host_spec.CmdSpec.{CmdSpec}
 use Rattle.mid_base.specs.declared.host_spec.HostSpec.{HostSpec}
 use Rattle.mid_base.specs.Address.{same_dev}
 use Rattle.mid_base.specs.Past.{ticks, sent_for}
-use Rattle.trace_model.specs.Names.{command, dev_of, depth_in, is_good, with_sense}
+use Rattle.mid_base.specs.Answers.{is_good, with_sense}
+use Rattle.trace_model.specs.Names.{command, dev_of, depth_in}
 use Rattle.trace_model.specs.Attempts.{attempts, sends, is_open, is_answered, answer, answered, late, owner, is_settled, longers, is_due, is_said_done}
 use Rattle.trace_model.specs.Commands.{standing, is_new, waits, taken}
-use Rattle.trace_model.specs.Devices.{state, is_closed, is_running, is_online, in_recovery, has_begun}
+use Rattle.device_states.specs.States.{is_closed, is_running}
+use Rattle.trace_model.specs.Devices.{state, is_online, in_recovery, has_begun}
 use Rattle.trace_model.specs.Time.{deadline, is_expired, is_claimed as is_waiting}
 use Rattle.trace_model.specs.Sending.{next_of_lane, is_command, is_held, held, held_of, Depth, after_full, after_good, after_answer, depths, depth, host_paused, dev_paused, is_ready, is_pickable, pick, is_number, is_least_free}
 use Rattle.trace_model.specs.Judging.{to_judge}
-use Rattle.trace_model.specs.Disp.{disp}
+use Rattle.disposition.specs.Disp.{disp}
 use Rattle.trace_model.specs.Legal.{Group}
 use Rattle.trace_model.specs.Flush.{is_empty}
 use Rattle.trace_model.specs.Steps.{barred, first_why, would_send, most}

@@ -7,7 +7,7 @@ use Rattle.mid_base.specs.declared.bytes.SenseBytes.{SenseBytes}
 use Rattle.mid_base.specs.declared.entries.Entry.{Entry}
 use Rattle.mid_base.specs.declared.entries.Entry.TheVariants.{Bounced, Ready, Sensed, Tick}
 use Rattle.trace_model.specs.Attempts.{answer, is_wanted}
-use Rattle.trace_model.specs.Names.{is_good, with_sense}
+use Rattle.mid_base.specs.Answers.{is_good, with_sense}
 use Rattle.fixed_lower.specs.LowerRun.{LowerRun, good}
 
 either_good : (b : Bool) (o : Option Answer) → ((a : Answer) → o ≡ Some a → is_good a ≡ true) → (a : Answer) → cond b (Some good) o ≡ Some a → is_good a ≡ true

@@ -1,11 +1,12 @@
 -- The entries P, the newest first, are a run of a lower layer that answers each attempt GOOD one tick after its sending.
-use Rattle.std.specs.Prelude.{◌≡◌, ℕ, ◌+◌, ◌≤◌, Bool, false, nat_le, List, [], ◌∷◌, ◌++◌}
+use Rattle.std.specs.Prelude.{◌≡◌, ℕ, ◌+◌, ◌≤◌, ◌==◌, ◌||◌, Bool, false, nat_le, List, [], ◌∷◌, ◌++◌}
 use Rattle.mid_base.specs.declared.names.Attempt.{Attempt}
 use Rattle.mid_base.specs.declared.answers.Answer.{Answer}
 use Rattle.mid_base.specs.Bytes.{no_sense}
 use Rattle.mid_base.specs.Past.{ticks}
 use Rattle.mid_base.specs.declared.entries.Entry.{Entry}
-use Rattle.mid_base.specs.declared.entries.Entry.TheVariants.{Sent, Bounced, Ready, Tick}
+use Rattle.mid_base.specs.declared.answers.ProbeSay.TheVariants.{Silent}
+use Rattle.mid_base.specs.declared.entries.Entry.TheVariants.{Sent, Bounced, Ready, Longer, DoneSaid, Aborted, Sensed, Act, Probe, Tick}
 
 -- DID_OK and GOOD, nothing moved
 abbrev pub good : Answer
@@ -35,8 +36,7 @@ abbrev pub IsFirst : List (Attempt × ℕ) → Attempt → ℕ → Type 0
 IsFirst [] n t = ⊥
 IsFirst (w ∷ ws) n t = (w.0 ≡ n) × (w.1 ≤ t)
 
--- It is never busy, it answers in the order of sending, and time doesn't go on while an answer is due. It has no other
--- calls, so other entries tell nothing of it.
+-- It is never busy, it answers in the order of sending, and time doesn't go on while an answer is due.
 abbrev pub LowerRun : List Entry → Type 0
 LowerRun [] = Unit {0}
 LowerRun (Bounced c n why ∷ P) = ⊥
@@ -44,6 +44,21 @@ LowerRun (Ready n a ∷ P) = IsFirst (waiting P) n (ticks P) × (a ≡ good) × 
 LowerRun (Tick ∷ P) = (is_due_after P ≡ false) × LowerRun P
 LowerRun (_ ∷ P) = LowerRun P
 
+-- an act that comes of no abort and no reset: starting a unit, and putting it offline
+abbrev pub is_of_the_mid_level : ℕ → Bool
+is_of_the_mid_level level = (level == 3) || (level == 8)
+
+-- It handles no timeout, each abort and reset fails, and no probe is answered, so that nothing is fetched.
+abbrev pub Refuses : List Entry → Type 0
+Refuses [] = Unit {0}
+Refuses (Longer n ∷ P) = ⊥
+Refuses (DoneSaid n ∷ P) = ⊥
+Refuses (Aborted c n ok ∷ P) = (ok ≡ false) × Refuses P
+Refuses (Act level scope ok ∷ P) = (is_of_the_mid_level level ≡ false → ok ≡ false) × Refuses P
+Refuses (Probe d code say ∷ P) = (say ≡ Silent) × Refuses P
+Refuses (Sensed c n bytes ∷ P) = ⊥
+Refuses (_ ∷ P) = Refuses P
+
 -- where it stands
 abbrev pub IsAt : List (Attempt × ℕ) → List Entry → Type 0
-IsAt held P = (held ≡ waiting P) × LowerRun P
+IsAt held P = (held ≡ waiting P) × LowerRun P × Refuses P

@@ -1,12 +1,17 @@
 ghost use Rattle.std.specs.Prelude.{◌≡◌, []};
 ghost use Rattle.fixed_lower.specs.LowerRun.{good as good_answer};
 
-use host_template::{HostTemplate, Queued};
-use mid_base::{Answer, Attempt, CdbBytes, DevAddr, HostByte, NoMemory, SenseBytes, Tick};
+use host_template::{EhSay, HostTemplate, Queued, TimerSay};
+use mid_base::{
+    Answer, Attempt, CdbBytes, DID_OK, DevAddr, GOOD, NoMemory, ProbeSay, SenseBytes, Tick,
+};
 use std::alloc::Global;
 use std::collections::VecDeque;
 
 /// Takes each attempt, and answers it GOOD one tick after it was sent, in the order of sending.
+///
+/// It has no recovery: it handles no timeout, fails each abort and reset, and answers no probe. It is honest, and doesn't
+/// tell which attempts it holds.
 #[derive(Drop)]
 pub struct FixedLower {
     // The attempts that aren't answered, each with the tick at which its answer is due.
@@ -32,8 +37,8 @@ fn good() -> Answer
     ensures { result ≡ good_answer }
 {
     Answer {
-        host: HostByte(0),
-        status: 0,
+        host: DID_OK,
+        status: GOOD,
         sense: SenseBytes::empty(),
         moved: 0,
         sum: 0,
@@ -41,12 +46,18 @@ fn good() -> Answer
 }
 
 impl HostTemplate for FixedLower {
+    ghost use Rattle.std.specs.Prelude.{true, false};
     ghost use Rattle.fixed_lower.specs.LowerRun.{IsAt, is_due_at};
-    ghost use Rattle.fixed_lower.specs.Laws.{silent_law, quiet_law};
+    ghost use Rattle.fixed_lower.specs.Laws.{silent_law, quiet_law, scan_law};
 
     ghost stands = { λ x s b P. IsAt x.held.items P };
 
+    // No probe is answered.
+    ghost data_in = { λ s b P d code bytes. ⊥ };
+
     ghost is_due = { λ x t. is_due_at x.held.items t };
+
+    ghost means = { λ x. record { honest = true; tells = false; holds = [] } };
 
     fn queue(
         &mut self,
@@ -83,9 +94,39 @@ impl HostTemplate for FixedLower {
         }
     }
 
+    fn timed_out(&mut self, _n: Attempt, _dev: DevAddr, _now: Tick) -> TimerSay {
+        TimerSay::NotHandled
+    }
+
+    fn abort(&mut self, _n: Attempt, _dev: DevAddr) -> EhSay {
+        EhSay::Failed
+    }
+
+    fn reset_device(&mut self, _dev: DevAddr) -> EhSay {
+        EhSay::Failed
+    }
+
+    fn reset_target(&mut self, _channel: u8, _target: u8) -> EhSay {
+        EhSay::Failed
+    }
+
+    fn reset_bus(&mut self, _channel: u8) -> EhSay {
+        EhSay::Failed
+    }
+
+    fn reset_host(&mut self) -> EhSay {
+        EhSay::Failed
+    }
+
+    fn probe(&mut self, _dev: DevAddr, _cdb: &CdbBytes, _into: &mut [u8]) -> ProbeSay {
+        ProbeSay::Silent
+    }
+
     ghost silent = { λ x s b P e quiet h. silent_law x.held.items s P e quiet h };
 
     ghost quiet_tick = { λ x s b P idle h. quiet_law x.held.items P idle h };
+
+    ghost scans = { λ x s b c P only same h. scan_law x.held.items P only h };
 }
 
 #[cfg(test)]
@@ -119,6 +160,28 @@ mod tests {
             );
         }
         assert!(rt; !lower.due(Tick(4)));
+        Ok(())
+    }
+
+    #[test]
+    fn recovery_gets_nothing_from_it(rt: HostRuntime) -> Result<(), Fail> {
+        let dev = DevAddr {
+            channel: 0,
+            target: 0,
+            lun: 0,
+        };
+        let cdb = CdbBytes::from_slice(&[0; 6]);
+        let mut buffer = [0u8; 2056];
+        let mut lower = FixedLower::new(rt.alloc());
+        lower.queue(Attempt(1), dev, &cdb, 0, Tick(0))?;
+        assert!(rt; lower.timed_out(Attempt(1), dev, Tick(0)) == TimerSay::NotHandled);
+        assert!(rt; lower.abort(Attempt(1), dev) == EhSay::Failed);
+        assert!(rt; lower.reset_device(dev) == EhSay::Failed);
+        assert!(rt; lower.reset_target(0, 0) == EhSay::Failed);
+        assert!(rt; lower.reset_bus(0) == EhSay::Failed);
+        assert!(rt; lower.reset_host() == EhSay::Failed);
+        assert!(rt; lower.probe(dev, &cdb, &mut buffer) == ProbeSay::Silent);
+        assert!(rt; lower.due(Tick(1)));
         Ok(())
     }
 }

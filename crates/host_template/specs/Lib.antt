@@ -1,4 +1,5 @@
-pub mod Handlers
 pub mod Standing
+pub mod Meaning
+pub mod Probes
 pub mod Calls
 pub mod Laws

@@ -4,3 +4,5 @@ pub mod Address
 pub mod Past
 pub mod Limits
 pub mod Codes
+pub mod Answers
+pub mod Callbacks

@@ -22,7 +22,7 @@ use Rattle.host_template.specs.declared.queued.Queued.TheVariants.{Taken, HostBu
 use Rattle.host_template.specs.Standing.{Before, Standing}
 use Rattle.host_template.specs.Calls.{FitsQueue, queued}
 use Rattle.host_template.specs.Laws.{SilentLaw}
-use Rattle.trace_model.specs.Names.{is_good}
+use Rattle.mid_base.specs.Answers.{is_good}
 use Rattle.trace_model.specs.Legal.{Group}
 use Rattle.trace_model.specs.Steps.{opens}
 use Rattle.trace_model.proofs.Making.{goes_on_back}

@@ -9,7 +9,8 @@ use Rattle.mid_base.specs.declared.states.DeviceState.TheVariants.{Running as Ru
 use Rattle.mid_base.specs.declared.steps.Step.{Step}
 use Rattle.mid_base.specs.declared.steps.Step.TheVariants as step
 use Rattle.host_template.specs.Standing.{Before, Standing}
-use Rattle.trace_model.specs.Names.{start_in, is_good}
+use Rattle.mid_base.specs.Answers.{is_good}
+use Rattle.trace_model.specs.Names.{start_in}
 use Rattle.trace_model.specs.Attempts.{answer}
 use Rattle.trace_model.specs.Legal.{ByGroups}
 use Rattle.core_tables.specs.declared.running.Running.{Running}

@@ -15,7 +15,7 @@ use Rattle.mid_base.specs.declared.steps.Step.TheVariants as step
 use Rattle.mid_base.specs.declared.steps.Why.{Why}
 use Rattle.mid_base.specs.declared.host_spec.HostSpec.{HostSpec}
 use Rattle.mid_base.specs.Past.{ticks}
-use Rattle.trace_model.specs.Names.{is_good, with_sense}
+use Rattle.mid_base.specs.Answers.{is_good, with_sense}
 use Rattle.trace_model.specs.Attempts.{answer, is_wanted}
 use Rattle.trace_model.specs.Legal.{onto}
 use Rattle.trace_model.proofs.Making.{onto-reverse}

@@ -9,7 +9,8 @@ use Rattle.mid_base.specs.declared.answers.Disp.TheVariants.{Success, Retry, Req
 use Rattle.mid_base.specs.declared.entries.Entry.{Entry}
 use Rattle.mid_base.specs.declared.entries.Entry.TheVariants.{Took, Sent, Bounced, Judged, AbortSet, Aborted, Failed, Cleared, Sensed, Again, Told, EhBegin, Act, Probe, Offline}
 use Rattle.mid_base.specs.declared.host_spec.HostSpec.{HostSpec}
-use Rattle.trace_model.specs.Ladder.{Todo, Level, fetch_sense, abort, start_unit, reset_device, reset_target, reset_bus, reset_host, give_up, no_level, level_of, is_in_scope, devs}
+use Rattle.disposition.specs.declared.todo.Todo.{Todo}
+use Rattle.disposition.specs.Ladder.{Level, fetch_sense, abort, start_unit, reset_device, reset_target, reset_bus, reset_host, give_up, no_level, level_of, is_in_scope, devs}
 use Rattle.trace_model.specs.Recovery.{Failure, failed, todo, listed, todo_of, is_cleared}
 use Rattle.trace_model.specs.Course.{Course, over, next, ask, fetch, Meets, after}
 use Rattle.trace_model.specs.Climb.{tests, clear, test_and_clear, on_one_of, is_doubtful, kept_if, judge_again, act_on}

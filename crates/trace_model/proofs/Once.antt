@@ -15,8 +15,9 @@ use Rattle.mid_base.specs.declared.host_spec.HostSpec.{HostSpec}
 use Rattle.mid_base.specs.Past.{sent_for}
 use Rattle.trace_model.specs.declared.standing.Standing.{Standing}
 use Rattle.trace_model.specs.declared.standing.Standing.TheVariants.{New, Waits, Busy, Ended}
-use Rattle.trace_model.specs.Names.{command, dev_of, no_connect, time_out}
-use Rattle.trace_model.specs.Disp.{among}
+use Rattle.mid_base.specs.Answers.{no_connect, time_out}
+use Rattle.trace_model.specs.Names.{command, dev_of}
+use Rattle.disposition.specs.Disp.{among}
 use Rattle.trace_model.specs.Attempts.{sends, is_open, answer, owner, is_settled, is_by_answer, is_by_expiry}
 use Rattle.trace_model.specs.Commands.{standing, is_busy, is_new, waits, aborts}
 use Rattle.trace_model.specs.Devices.{has_begun, in_recovery, is_online}

@@ -15,8 +15,8 @@ use Rattle.mid_base.specs.declared.host_spec.HostSpec.{HostSpec}
 use Rattle.mid_base.specs.Past.{sent_for}
 use Rattle.trace_model.specs.declared.standing.Standing.{Standing}
 use Rattle.trace_model.specs.declared.standing.Standing.TheVariants.{New, Waits, Busy, Ended}
-use Rattle.trace_model.specs.Names.{time_out}
-use Rattle.trace_model.specs.Disp.{among}
+use Rattle.mid_base.specs.Answers.{time_out}
+use Rattle.disposition.specs.Disp.{among}
 use Rattle.trace_model.specs.Attempts.{sends, is_open, owner, is_settled}
 use Rattle.trace_model.specs.Commands.{standing, is_busy, is_new, waits, aborts}
 use Rattle.trace_model.specs.Devices.{has_begun}

@@ -13,11 +13,12 @@ use Rattle.mid_base.specs.declared.answers.Scope.{Scope}
 use Rattle.mid_base.specs.declared.entries.Entry.{Entry}
 use Rattle.mid_base.specs.declared.entries.Entry.TheVariants.{Judged, Aborted, Failed, Cleared, Sensed, Again, Told, EhBegin, Act, Probe, Offline}
 use Rattle.mid_base.specs.declared.host_spec.HostSpec.{HostSpec}
-use Rattle.trace_model.specs.Names.{time_out}
+use Rattle.mid_base.specs.Answers.{time_out}
 use Rattle.trace_model.specs.Attempts.{answer}
 use Rattle.trace_model.specs.Judging.{may_retry}
 use Rattle.trace_model.specs.Recovery.{todo, listed}
-use Rattle.trace_model.specs.Ladder.{Todo, Level, fetch_sense, abort, start_unit, reset_device, reset_target, reset_bus, reset_host, give_up, no_level, level_of, is_in_scope, devs}
+use Rattle.disposition.specs.declared.todo.Todo.{Todo}
+use Rattle.disposition.specs.Ladder.{Level, fetch_sense, abort, start_unit, reset_device, reset_target, reset_bus, reset_host, give_up, no_level, level_of, is_in_scope, devs}
 use Rattle.trace_model.specs.Course.{Course, over, next, ask, fetch, Meets, after}
 use Rattle.trace_model.specs.Climb.{tests, clear, test_and_clear, on_one_of, is_doubtful, kept_if, judge_again, fetch_for, start_for, offline_for, act_on}
 use Rattle.trace_model.specs.Rules.{Allowed, course, judged, is_lost}

@@ -9,7 +9,7 @@ use Rattle.mid_base.specs.declared.answers.By.{By}
 use Rattle.mid_base.specs.declared.entries.Entry.{Entry}
 use Rattle.mid_base.specs.declared.entries.Entry.TheVariants.{Took, Sent, Bounced, Owned, Judged, AbortSet, Aborted, Failed, Again, Told}
 use Rattle.mid_base.specs.Past.{sent_for}
-use Rattle.trace_model.specs.Disp.{among}
+use Rattle.disposition.specs.Disp.{among}
 use Rattle.trace_model.specs.Attempts.{sends, is_open, owner, is_settled}
 use Rattle.trace_model.specs.Commands.{aborts}
 use Rattle.trace_model.specs.Devices.{has_begun}

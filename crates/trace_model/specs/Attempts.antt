@@ -6,7 +6,7 @@ use Rattle.mid_base.specs.declared.answers.By.TheVariants.{Answer as ByAnswer, E
 use Rattle.mid_base.specs.declared.entries.Entry.{Entry}
 use Rattle.mid_base.specs.declared.entries.Entry.TheVariants.{Sent, Bounced, Ready, Due, Longer, DoneSaid, Owned, Late, Judged, AbortSet, Failed, Sensed}
 use Rattle.mid_base.specs.Past.{ticks}
-use Rattle.trace_model.specs.Names.{with_sense}
+use Rattle.mid_base.specs.Answers.{with_sense}
 
 -- the attempts, the newest first
 abbrev pub attempts : List Entry → List ℕ

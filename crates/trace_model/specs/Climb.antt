@@ -10,9 +10,11 @@ use Rattle.mid_base.specs.declared.answers.ProbeSay.TheVariants.{Answered, Silen
 use Rattle.mid_base.specs.declared.answers.Scope.{Scope}
 use Rattle.mid_base.specs.declared.entries.Entry.TheVariants.{Judged, Cleared, Offline}
 use Rattle.mid_base.specs.Address.{same_dev}
-use Rattle.trace_model.specs.Names.{said_good, is_good, with_sense}
-use Rattle.trace_model.specs.Disp.{disp, is_retry}
-use Rattle.trace_model.specs.Ladder.{Cx, Todo, Level, fetch_sense, start_unit, give_up, no_level, level_of, is_in_scope, devs}
+use Rattle.mid_base.specs.Answers.{said_good, is_good, with_sense}
+use Rattle.disposition.specs.Disp.{disp, is_retry}
+use Rattle.disposition.specs.declared.todo.Cx.{Cx}
+use Rattle.disposition.specs.declared.todo.Todo.{Todo}
+use Rattle.disposition.specs.Ladder.{Level, fetch_sense, start_unit, give_up, no_level, level_of, is_in_scope, devs}
 use Rattle.trace_model.specs.Course.{Course, over, next, ask, fetch, in_turn}
 
 abbrev pub test_unit_ready : ℕ
@@ -53,9 +55,9 @@ test_and_clear level xs = tests (devs xs) (λ ready. clear level (filter (on_one
 
 -- level 1, where the sense was fetched: the answer is judged again
 abbrev pub judge_again : Todo → Disp → Course
-judge_again x Success = next (Judged x.cmd x.attempt Success) (next (Cleared x.cmd 1) over)
-judge_again x Retry = next (Judged x.cmd x.attempt Retry) (next (Cleared x.cmd 1) over)
-judge_again x d = next (Judged x.cmd x.attempt d) over
+judge_again x Success = next (Judged x.cmd x.n Success) (next (Cleared x.cmd 1) over)
+judge_again x Retry = next (Judged x.cmd x.n Retry) (next (Cleared x.cmd 1) over)
+judge_again x d = next (Judged x.cmd x.n d) over
 
 abbrev pub disp_again : Cx → Option Answer → Disp
 disp_again cx None = Fail
@@ -66,7 +68,7 @@ fetch_for ok [] = over
 fetch_for false (x ∷ xs) = ask x.dev request_sense None (λ say. over)
 fetch_for true (x ∷ xs) =
     ask x.dev request_sense (Some true) (λ say.
-    fetch x.cmd x.attempt (λ sense. judge_again x (disp_again x.cx (option_map (with_sense sense) x.answer))))
+    fetch x.cmd x.n (λ sense. judge_again x (disp_again x.cx (option_map (with_sense sense) x.answer))))
 
 -- level 3
 abbrev pub start_for : Bool → List Todo → Course

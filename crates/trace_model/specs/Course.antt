@@ -11,7 +11,7 @@ use Rattle.mid_base.specs.declared.answers.ProbeSay.{ProbeSay}
 use Rattle.mid_base.specs.declared.entries.Entry.{Entry}
 use Rattle.mid_base.specs.declared.entries.Entry.TheVariants.{Probe, Sensed}
 use Rattle.sense_data.specs.Grammar.{is_valid_sense}
-use Rattle.trace_model.specs.Names.{said_good}
+use Rattle.mid_base.specs.Answers.{said_good}
 
 pub data Course : Type 0 where
   over : Course

@@ -8,8 +8,8 @@ use Rattle.mid_base.specs.declared.entries.Entry.{Entry}
 use Rattle.mid_base.specs.declared.entries.Entry.TheVariants.{Took, Bounced, Judged, Aborted, Cleared, Again}
 use Rattle.mid_base.specs.declared.host_spec.HostSpec.{HostSpec}
 use Rattle.mid_base.specs.Past.{attempt_of}
-use Rattle.trace_model.specs.Names.{no_connect, time_out}
-use Rattle.trace_model.specs.Disp.{is_success}
+use Rattle.mid_base.specs.Answers.{no_connect, time_out}
+use Rattle.disposition.specs.Disp.{is_success}
 use Rattle.trace_model.specs.Attempts.{answer, owner}
 use Rattle.trace_model.specs.Commands.{judgement, is_own}
 use Rattle.trace_model.specs.Devices.{has_begun}

@@ -7,8 +7,9 @@ use Rattle.mid_base.specs.declared.answers.Disp.{Disp}
 use Rattle.mid_base.specs.declared.entries.Entry.{Entry}
 use Rattle.mid_base.specs.declared.host_spec.HostSpec.{HostSpec}
 use Rattle.mid_base.specs.Past.{sent_for}
-use Rattle.trace_model.specs.Names.{command, dev_of, has_callback}
-use Rattle.trace_model.specs.Disp.{disp}
+use Rattle.mid_base.specs.Callbacks.{has_callback}
+use Rattle.trace_model.specs.Names.{command, dev_of}
+use Rattle.disposition.specs.Disp.{disp}
 use Rattle.trace_model.specs.Attempts.{is_open, is_answered, owner, is_by_answer, is_by_expiry, is_settled, is_due}
 use Rattle.trace_model.specs.Commands.{retries, has_abort, aborts}
 use Rattle.trace_model.specs.Devices.{is_online}

@@ -1,13 +1,11 @@
 pub use Rattle.sense_data.specs.Grammar
 pub mod Names
-pub mod Disp
 pub mod Attempts
 pub mod Commands
 pub mod Devices
 pub mod Time
 pub mod Sending
 pub mod Judging
-pub mod Ladder
 pub mod Recovery
 pub mod Course
 pub mod Climb

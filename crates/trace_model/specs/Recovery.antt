@@ -10,7 +10,9 @@ use Rattle.trace_model.specs.Names.{command, dev_of}
 use Rattle.trace_model.specs.Attempts.{answer}
 use Rattle.trace_model.specs.Commands.{standing, is_busy, is_failed, retries}
 use Rattle.trace_model.specs.Devices.{is_online, has_begun}
-use Rattle.trace_model.specs.Ladder.{Cx, Todo, Level, Pair, can_succeed, can_fail, next_of}
+use Rattle.disposition.specs.declared.todo.Cx.{Cx}
+use Rattle.disposition.specs.declared.todo.Todo.{Todo}
+use Rattle.disposition.specs.Ladder.{Level, Pair, can_succeed, can_fail, next_of}
 
 -- a failed command with its attempt
 pub record Failure : Type 0 where
@@ -41,7 +43,7 @@ abbrev pub cx_of : HostSpec → List Entry → ℕ → Cx
 cx_of s P c = record { retries = retries c P; allowed = (command s c).allowed; failfast = (command s c).failfast; online = is_online s (dev_of s c) P }
 
 abbrev pub todo_of : HostSpec → List Entry → Failure → Todo
-todo_of s P f = record { cmd = f.cmd; attempt = f.attempt; dev = dev_of s f.cmd.0; cancelled = f.cancelled; answer = if f.cancelled then None else answer f.attempt.0 P; cx = cx_of s P f.cmd.0 }
+todo_of s P f = record { cmd = f.cmd; n = f.attempt; dev = dev_of s f.cmd.0; cancelled = f.cancelled; answer = if f.cancelled then None else answer f.attempt.0 P; cx = cx_of s P f.cmd.0 }
 
 abbrev pub listed : HostSpec → List Entry → List Todo
 listed s P = map (todo_of s P) (failed P)

@@ -9,14 +9,16 @@ use Rattle.mid_base.specs.declared.entries.Entry.{Entry}
 use Rattle.mid_base.specs.declared.entries.Entry.TheVariants.{Took, Sent, Bounced, Ready, Due, Longer, DoneSaid, Owned, Late, Judged, AbortSet, Aborted, Failed, Again, Told, EhBegin, EhEnd, Act, State, Tick}
 use Rattle.mid_base.specs.declared.host_spec.HostSpec.{HostSpec}
 use Rattle.mid_base.specs.Address.{has_dev}
-use Rattle.trace_model.specs.Names.{no_connect, time_out}
+use Rattle.mid_base.specs.Answers.{no_connect, time_out}
 use Rattle.trace_model.specs.Attempts.{answer, late}
-use Rattle.trace_model.specs.Devices.{state, is_online, may_become, has_begun}
+use Rattle.device_states.specs.States.{may_become}
+use Rattle.trace_model.specs.Devices.{state, is_online, has_begun}
 use Rattle.trace_model.specs.Time.{may_ask, may_tick}
 use Rattle.trace_model.specs.Sending.{may_take, is_refused, may_send, is_stranded, just_sent}
 use Rattle.trace_model.specs.Judging.{may_own, to_judge, to_abort, has_abort_left, may_abort, may_retry, disp_of}
 use Rattle.trace_model.specs.Recovery.{failed, todo, listed, may_begin, may_act, next_act}
-use Rattle.trace_model.specs.Ladder.{Todo, level_of}
+use Rattle.disposition.specs.declared.todo.Todo.{Todo}
+use Rattle.disposition.specs.Ladder.{level_of}
 use Rattle.trace_model.specs.Course.{Course, over, next}
 use Rattle.trace_model.specs.Climb.{climb, clear}
 use Rattle.trace_model.specs.Flush.{is_flushed, is_saved, verdict, is_empty}

@@ -9,10 +9,12 @@ use Rattle.mid_base.specs.declared.entries.Entry.TheVariants.{Sent, Bounced, Jud
 use Rattle.mid_base.specs.declared.host_spec.CmdSpec.{CmdSpec}
 use Rattle.mid_base.specs.declared.host_spec.HostSpec.{HostSpec}
 use Rattle.mid_base.specs.Address.{same_dev}
-use Rattle.trace_model.specs.Names.{dev_of, depth_in, command, is_good}
+use Rattle.mid_base.specs.Answers.{is_good}
+use Rattle.trace_model.specs.Names.{dev_of, depth_in, command}
 use Rattle.trace_model.specs.Attempts.{sends, answer}
 use Rattle.trace_model.specs.Commands.{standing, is_new, waits, is_busy, holds, taken}
-use Rattle.trace_model.specs.Devices.{state, is_online, is_running, is_closed, in_recovery}
+use Rattle.device_states.specs.States.{is_running, is_closed}
+use Rattle.trace_model.specs.Devices.{state, is_online, in_recovery}
 
 -- a command of the lane that isn't handed in
 abbrev pub is_left : ℕ → List Entry → CmdSpec → Bool

@@ -19,7 +19,8 @@ use Rattle.mid_base.specs.Past.{ticks}
 use Rattle.trace_model.specs.Names.{command, dev_of}
 use Rattle.trace_model.specs.Attempts.{sends, attempts, answered, is_open, is_answered, late, owner, is_settled, is_due}
 use Rattle.trace_model.specs.Commands.{aborts}
-use Rattle.trace_model.specs.Devices.{state, is_online, may_become, in_recovery, has_begun}
+use Rattle.device_states.specs.States.{may_become}
+use Rattle.trace_model.specs.Devices.{state, is_online, in_recovery, has_begun}
 use Rattle.trace_model.specs.Time.{is_expired}
 use Rattle.trace_model.specs.Sending.{next_of_lane, is_refused, is_stranded, pick}
 use Rattle.trace_model.specs.Recovery.{is_quiet, failed, todo}

@@ -1,9 +1,7 @@
 -- The ladder over a list of failed commands: levels, scopes and the next act. Nothing here looks at a journal.
-use Rattle.std.specs.Prelude.{ℕ, zero, suc, ◌==◌, Bool, true, false, not, ◌&&◌, if◌then◌else◌, List, [], ◌∷◌, ◌++◌, map, Option, None, Some, find, nat_lt}
+use Rattle.std.specs.Prelude.{ℕ, zero, suc, ◌+◌, ◌*◌, ◌==◌, Bool, true, false, not, ◌&&◌, if◌then◌else◌, List, [], ◌∷◌, ◌++◌, map, Option, None, Some, find, nat_lt}
 use Rattle.std.specs.List.{list_any}
 use Rattle.mid_base.specs.Bytes.{sense_list}
-use Rattle.mid_base.specs.declared.names.CmdId.{CmdId}
-use Rattle.mid_base.specs.declared.names.Attempt.{Attempt}
 use Rattle.mid_base.specs.declared.names.DevAddr.{DevAddr}
 use Rattle.mid_base.specs.declared.answers.Answer.{Answer}
 use Rattle.mid_base.specs.declared.answers.Scope.{Scope}
@@ -11,24 +9,9 @@ use Rattle.mid_base.specs.declared.answers.Scope.TheVariants.{Cmd, Dev, Target, 
 use Rattle.mid_base.specs.declared.host_spec.Handlers.{Handlers}
 use Rattle.mid_base.specs.Address.{same_dev}
 use Rattle.sense_data.specs.Grammar.{is_valid_sense}
-use Rattle.trace_model.specs.Names.{address, has_callback}
-use Rattle.trace_model.specs.Disp.{check_sense, is_fail}
-
--- what the disposition of a command looks at beside its answer
-pub record Cx : Type 0 where
-  pub retries : ℕ
-  pub allowed : ℕ
-  pub failfast : Bool
-  pub online : Bool
-
--- a failed command that isn't cleared
-pub record Todo : Type 0 where
-  pub cmd : CmdId
-  pub attempt : Attempt
-  pub dev : DevAddr
-  pub cancelled : Bool
-  pub answer : Option Answer
-  pub cx : Cx
+use Rattle.mid_base.specs.Callbacks.{has_callback}
+use Rattle.disposition.specs.Disp.{check_sense, is_fail}
+use Rattle.disposition.specs.declared.todo.Todo.{Todo}
 
 -- The levels of the ladder.
 pub data Level : Type 0 where
@@ -76,9 +59,6 @@ abbrev pub wants_start : Option Answer → Bool
 wants_start None = false
 wants_start (Some a) = is_valid_sense (sense_list a.sense) && is_fail (check_sense (sense_list a.sense))
 
-abbrev pub is_of_cmd : ℕ → Todo → Bool
-is_of_cmd c x = x.cmd.0 == c
-
 abbrev pub is_in_scope : Scope → Todo → Bool
 is_in_scope (Cmd c) x = x.cmd.0 == c.0
 is_in_scope (Dev d) x = same_dev x.dev d
@@ -93,6 +73,10 @@ is_of_kind aborts abort xs x = x.cancelled && aborts
 is_of_kind aborts start_unit xs x = wants_start x.answer && not (list_any (λ y. y.cancelled && same_dev y.dev x.dev) xs)
 is_of_kind aborts no_level xs x = false
 is_of_kind aborts _ xs x = true
+
+-- the place of a device in address order
+abbrev pub address : DevAddr → ℕ
+address d = (d.channel * 256 + d.target) * 65536 + d.lun
 
 -- devices in address order, each once
 abbrev pub with_dev : DevAddr → List DevAddr → List DevAddr

@@ -1,0 +1,2 @@
+pub mod Disp
+pub mod Ladder
