@@ -12,7 +12,7 @@ use Rattle.mid_base.specs.declared.host_spec.HostSpec.{HostSpec}
 abbrev pub unit : DevAddr
 unit = record { channel = 0; target = 0; lun = 0 }
 
-zeros_padded : IsPadded 16 6 (replicate 16 0)
+pub zeros_padded : IsPadded 16 6 (replicate 16 0)
 zeros_padded = padded_made 16 (replicate 6 0) (replicate 10 0) (omega arith) refl
 
 -- TEST UNIT READY
@@ -22,7 +22,7 @@ test_block = record { len = 6; bytes = replicate 16 0; padded = zeros_padded }
 abbrev pub read_bytes : List ℕ
 read_bytes = 40 ∷ 0 ∷ 0 ∷ 0 ∷ 0 ∷ 0 ∷ 0 ∷ 0 ∷ 1 ∷ 0 ∷ []
 
-read_padded : IsPadded 16 10 (read_bytes ++ replicate 6 0)
+pub read_padded : IsPadded 16 10 (read_bytes ++ replicate 6 0)
 read_padded = padded_made 16 read_bytes (replicate 6 0) (omega arith) refl
 
 -- READ(10) of one block

@@ -17,7 +17,7 @@ use Rattle.worked_journals.specs.Hosts.{unit}
 abbrev pub fixed_bytes : ℕ → ℕ → ℕ → List ℕ
 fixed_bytes key code qualifier = 112 ∷ 0 ∷ key ∷ 0 ∷ 0 ∷ 0 ∷ 0 ∷ 10 ∷ 0 ∷ 0 ∷ 0 ∷ 0 ∷ code ∷ qualifier ∷ 0 ∷ 0 ∷ 0 ∷ 0 ∷ []
 
-fixed_padded : (key code qualifier : ℕ) → IsPadded 252 18 (fixed_bytes key code qualifier ++ replicate 234 0)
+pub fixed_padded : (key code qualifier : ℕ) → IsPadded 252 18 (fixed_bytes key code qualifier ++ replicate 234 0)
 fixed_padded key code qualifier = padded_made 252 (fixed_bytes key code qualifier) (replicate 234 0) (omega arith) refl
 
 abbrev pub fixed : ℕ → ℕ → ℕ → SenseBytes
