@@ -13,7 +13,6 @@ pub mod Flush
 pub mod Rules
 pub mod Legal
 pub mod Drained
-pub mod Worked
 pub mod Counts
 pub mod Steps
 pub mod Headline

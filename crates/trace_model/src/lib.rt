@@ -8,7 +8,6 @@
 mod booked;
 mod laws;
 mod standing;
-mod worked;
 
 pub use booked::Booked;
 pub use laws::{
@@ -16,8 +15,3 @@ pub use laws::{
     legal_journals_keep_the_headline, nothing_follows_a_report, places_are_groups,
 };
 pub use standing::Standing;
-pub use worked::{
-    expiry_wins_is_legal, no_callbacks_is_legal, recovery_too_early_is_not_legal,
-    report_left_out_is_not_legal, skipped_levels_are_not_legal, tick_over_an_answer_is_not_legal,
-    two_owners_are_not_legal, two_recovered_is_legal,
-};
