@@ -1,5 +1,5 @@
 -- The hosts of the worked journals. Each has the logical unit 0:0:0, and commands for it in lane 0.
-use Rattle.std.specs.Prelude.{◌≡◌, refl, ℕ, ◌≤◌, Bool, true, false, List, [], ◌∷◌, ◌++◌, replicate}
+use Rattle.std.specs.Prelude.{refl, ℕ, Bool, false, List, [], ◌∷◌, ◌++◌, replicate}
 use Rattle.std.proofs.Common.{arith}
 use Rattle.mid_base.specs.Padded.{IsPadded, padded_made}
 use Rattle.mid_base.specs.declared.bytes.CdbBytes.{CdbBytes}

@@ -1,5 +1,5 @@
 -- Entries and answers, said with plain numbers as they are printed.
-use Rattle.std.specs.Prelude.{◌≡◌, refl, ℕ, ◌≤◌, Bool, List, [], ◌∷◌, ◌++◌, replicate}
+use Rattle.std.specs.Prelude.{refl, ℕ, Bool, List, [], ◌∷◌, ◌++◌, replicate}
 use Rattle.std.proofs.Common.{arith}
 use Rattle.mid_base.specs.Bytes.{no_sense}
 use Rattle.mid_base.specs.Codes.{did_ok, good, check_condition}
