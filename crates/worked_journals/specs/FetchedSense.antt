@@ -8,7 +8,8 @@ use Rattle.mid_base.specs.declared.entries.Entry.{Entry}
 use Rattle.mid_base.specs.declared.entries.Entry.TheVariants.{EhBegin, EhEnd, Act, Tick}
 use Rattle.mid_base.specs.declared.host_spec.HostSpec.{HostSpec}
 use Rattle.worked_journals.specs.Hosts.{host, lun, test_unit, all_callbacks}
-use Rattle.worked_journals.specs.Say.{fine, moved, checked, unit_attention, took, sent, ready, owned, judged, failed, cleared, sensed, again, told, probe, request_sense}
+use Rattle.trace_model.specs.Climb.{request_sense}
+use Rattle.worked_journals.specs.Say.{fine, moved, checked, was_reset, took, sent, ready, owned, judged, failed, cleared, sensed, again, told, probe}
 
 abbrev pub fetched_sense_spec : HostSpec
 fetched_sense_spec = host 4 all_callbacks (lun 8 false) (test_unit 1 30 ∷ [])
@@ -25,7 +26,7 @@ fetched_sense =
     EhBegin ∷
     Act 1 (Cmd (record { 0 = 1 })) true ∷
     probe request_sense (moved 18 169) ∷
-    sensed 1 1 unit_attention ∷
+    sensed 1 1 was_reset ∷
     judged 1 1 Retry ∷
     cleared 1 1 ∷
     again 1 true ∷

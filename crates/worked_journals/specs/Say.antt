@@ -11,25 +11,24 @@ use Rattle.mid_base.specs.declared.answers.Disp.{Disp}
 use Rattle.mid_base.specs.declared.answers.ProbeSay.TheVariants.{Answered}
 use Rattle.mid_base.specs.declared.entries.Entry.{Entry}
 use Rattle.mid_base.specs.declared.entries.Entry.TheVariants.{Took, Sent, Ready, Due, Owned, Late, Judged, AbortSet, Aborted, Failed, Cleared, Sensed, Again, Told, Probe}
+use Rattle.sense_data.specs.Codes.{unit_attention, not_ready, reset_occurred, initializing_command_required}
 use Rattle.worked_journals.specs.Hosts.{unit}
 
--- sense data of the fixed form: a key, an additional code and its qualifier
-abbrev pub fixed_bytes : ℕ → ℕ → ℕ → List ℕ
-fixed_bytes key code qualifier = 112 ∷ 0 ∷ key ∷ 0 ∷ 0 ∷ 0 ∷ 0 ∷ 10 ∷ 0 ∷ 0 ∷ 0 ∷ 0 ∷ code ∷ qualifier ∷ 0 ∷ 0 ∷ 0 ∷ 0 ∷ []
+-- sense data of the fixed form: a key, and an additional code with its qualifier
+abbrev pub fixed_bytes : ℕ → ℕ × ℕ → List ℕ
+fixed_bytes key code = 112 ∷ 0 ∷ key ∷ 0 ∷ 0 ∷ 0 ∷ 0 ∷ 10 ∷ 0 ∷ 0 ∷ 0 ∷ 0 ∷ code.0 ∷ code.1 ∷ 0 ∷ 0 ∷ 0 ∷ 0 ∷ []
 
-pub fixed_padded : (key code qualifier : ℕ) → IsPadded 252 18 (fixed_bytes key code qualifier ++ replicate 234 0)
-fixed_padded key code qualifier = padded_made 252 (fixed_bytes key code qualifier) (replicate 234 0) (omega arith) refl
+pub fixed_padded : (key : ℕ) (code : ℕ × ℕ) → IsPadded 252 18 (fixed_bytes key code ++ replicate 234 0)
+fixed_padded key code = padded_made 252 (fixed_bytes key code) (replicate 234 0) (omega arith) refl
 
-abbrev pub fixed : ℕ → ℕ → ℕ → SenseBytes
-fixed key code qualifier = record { len = 18; bytes = fixed_bytes key code qualifier ++ replicate 234 0; padded = fixed_padded key code qualifier }
+abbrev pub fixed : ℕ → ℕ × ℕ → SenseBytes
+fixed key code = record { len = 18; bytes = fixed_bytes key code ++ replicate 234 0; padded = fixed_padded key code }
 
--- 6/29/00: reset occurred
-abbrev pub unit_attention : SenseBytes
-unit_attention = fixed 6 41 0
+abbrev pub was_reset : SenseBytes
+was_reset = fixed unit_attention reset_occurred
 
--- 2/04/02: initializing command required
 abbrev pub not_started : SenseBytes
-not_started = fixed 2 4 2
+not_started = fixed not_ready initializing_command_required
 
 -- GOOD, with the bytes that were moved and their sum
 abbrev pub moved : ℕ → ℕ → Answer
@@ -86,12 +85,3 @@ told c a = Told (record { 0 = c }) a
 -- a command of recovery to the unit, by its operation code
 abbrev pub probe : ℕ → Answer → Entry
 probe code a = Probe unit code (Answered a)
-
-abbrev pub test_unit_ready : ℕ
-test_unit_ready = 0
-
-abbrev pub request_sense : ℕ
-request_sense = 3
-
-abbrev pub start_stop_unit : ℕ
-start_stop_unit = 27

@@ -7,7 +7,8 @@ use Rattle.mid_base.specs.declared.entries.Entry.{Entry}
 use Rattle.mid_base.specs.declared.entries.Entry.TheVariants.{EhBegin, EhEnd, Act, Tick}
 use Rattle.mid_base.specs.declared.host_spec.HostSpec.{HostSpec}
 use Rattle.worked_journals.specs.Hosts.{host, lun, read_one, unit, all_callbacks, device_reset}
-use Rattle.worked_journals.specs.Say.{fine, moved, checked, unit_attention, not_started, took, sent, ready, due, owned, judged, abort_set, aborted, failed, cleared, again, told, probe, test_unit_ready, start_stop_unit}
+use Rattle.trace_model.specs.Climb.{test_unit_ready, start_stop_unit}
+use Rattle.worked_journals.specs.Say.{fine, moved, checked, was_reset, not_started, took, sent, ready, due, owned, judged, abort_set, aborted, failed, cleared, again, told, probe}
 
 abbrev pub start_unit_spec : HostSpec
 start_unit_spec = host 4 all_callbacks (lun 8 true) (read_one 1 30 ∷ [])
@@ -59,7 +60,7 @@ reset_unit =
     failed 2 2 true ∷
     EhBegin ∷
     Act 4 (Dev unit) true ∷
-    probe test_unit_ready (checked unit_attention) ∷
+    probe test_unit_ready (checked was_reset) ∷
     probe test_unit_ready fine ∷
     cleared 1 4 ∷
     cleared 2 4 ∷

@@ -8,7 +8,8 @@ use Rattle.mid_base.specs.declared.entries.Entry.{Entry}
 use Rattle.mid_base.specs.declared.entries.Entry.TheVariants.{EhBegin, EhEnd, Act, Tick}
 use Rattle.mid_base.specs.declared.host_spec.HostSpec.{HostSpec}
 use Rattle.worked_journals.specs.Hosts.{host, lun, test_unit, unit, device_reset}
-use Rattle.worked_journals.specs.Say.{fine, checked, unit_attention, took, sent, ready, due, owned, judged, abort_set, aborted, failed, cleared, again, told, probe, test_unit_ready}
+use Rattle.trace_model.specs.Climb.{test_unit_ready}
+use Rattle.worked_journals.specs.Say.{fine, checked, was_reset, took, sent, ready, due, owned, judged, abort_set, aborted, failed, cleared, again, told, probe}
 
 abbrev pub two_recovered_spec : HostSpec
 two_recovered_spec = host 4 device_reset (lun 8 false) (test_unit 1 2 ∷ test_unit 2 4 ∷ [])
@@ -35,7 +36,7 @@ two_recovered =
     failed 2 2 true ∷
     EhBegin ∷
     Act 4 (Dev unit) true ∷
-    probe test_unit_ready (checked unit_attention) ∷
+    probe test_unit_ready (checked was_reset) ∷
     probe test_unit_ready fine ∷
     cleared 1 4 ∷
     cleared 2 4 ∷
