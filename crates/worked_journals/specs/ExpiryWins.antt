@@ -1,34 +1,35 @@
--- Expiry owns the attempt, its answer is late.
-use Rattle.std.specs.Prelude.{true, List, [], ◌∷◌}
-use Rattle.mid_base.specs.Bytes.{no_sense}
-use Rattle.mid_base.specs.declared.answers.By.TheVariants.{Answer as ByAnswer, Expiry as ByExpiry}
+-- The same moment, and the attempt is given to its expired timer: its answer is ignored, its abort succeeds, and the
+-- command is sent again.
+use Rattle.std.specs.Prelude.{true, false, List, [], ◌∷◌}
+use Rattle.mid_base.specs.declared.answers.By.TheVariants.{Answer, Expiry}
 use Rattle.mid_base.specs.declared.answers.Disp.TheVariants.{Success}
 use Rattle.mid_base.specs.declared.entries.Entry.{Entry}
-use Rattle.mid_base.specs.declared.entries.Entry.TheVariants.{Took, Sent, Ready, Due, Owned, Late, Judged, AbortSet, Aborted, Again, Told, Tick}
+use Rattle.mid_base.specs.declared.entries.Entry.TheVariants.{Tick}
 use Rattle.mid_base.specs.declared.host_spec.HostSpec.{HostSpec}
-use Rattle.worked_journals.specs.Parts.{test_unit, lun, host}
+use Rattle.worked_journals.specs.Hosts.{host, lun, test_unit, all_callbacks}
+use Rattle.worked_journals.specs.Say.{fine, took, sent, ready, due, owned, late, judged, abort_set, aborted, again, told}
 
 abbrev pub expiry_wins_spec : HostSpec
-expiry_wins_spec = host 1 31 (lun 8 ∷ []) (test_unit 1 2 ∷ [])
+expiry_wins_spec = host 1 all_callbacks (lun 8 false) (test_unit 1 2 ∷ [])
 
 abbrev pub expiry_wins : List Entry
 expiry_wins =
-    Took (record { 0 = 1 }) ∷
-    Sent (record { 0 = 1 }) (record { 0 = 1 }) (record { 0 = 0 }) ∷
+    took 1 ∷
+    sent 1 1 0 ∷
     Tick ∷
     Tick ∷
-    Ready (record { 0 = 1 }) (record { host = record { 0 = 0 }; status = 0; sense = no_sense; moved = 0; sum = 0 }) ∷
-    Due (record { 0 = 1 }) ∷
-    Owned (record { 0 = 1 }) ByExpiry ∷
-    AbortSet (record { 0 = 1 }) (record { 0 = 1 }) ∷
-    Late (record { 0 = 1 }) ∷
-    Aborted (record { 0 = 1 }) (record { 0 = 1 }) true ∷
-    Again (record { 0 = 1 }) true ∷
+    ready 1 fine ∷
+    due 1 ∷
+    owned 1 Expiry ∷
+    abort_set 1 1 ∷
+    late 1 ∷
+    aborted 1 1 true ∷
+    again 1 true ∷
     Tick ∷
-    Sent (record { 0 = 1 }) (record { 0 = 2 }) (record { 0 = 0 }) ∷
+    sent 1 2 0 ∷
     Tick ∷
-    Ready (record { 0 = 2 }) (record { host = record { 0 = 0 }; status = 0; sense = no_sense; moved = 0; sum = 0 }) ∷
-    Owned (record { 0 = 2 }) ByAnswer ∷
-    Judged (record { 0 = 1 }) (record { 0 = 2 }) Success ∷
-    Told (record { 0 = 1 }) (record { host = record { 0 = 0 }; status = 0; sense = no_sense; moved = 0; sum = 0 }) ∷
+    ready 2 fine ∷
+    owned 2 Answer ∷
+    judged 1 2 Success ∷
+    told 1 fine ∷
     []

@@ -1,9 +1,9 @@
-pub mod Parts
-pub mod BothOwn
+pub mod Hosts
+pub mod Say
+pub mod Edits
+pub mod AnswerWins
 pub mod ExpiryWins
-pub mod NoCallbacks
-pub mod SkipsLevels
-pub mod TooSoon
 pub mod TwoRecovered
-pub mod Unclaimed
-pub mod Untold
+pub mod NoCallbacks
+pub mod FetchedSense
+pub mod StartUnit

@@ -1,38 +1,39 @@
--- No callback helps, the device goes offline.
+-- A host without callbacks climbs every level, the device goes offline, and the other command is refused.
 use Rattle.std.specs.Prelude.{true, false, List, [], ◌∷◌}
-use Rattle.mid_base.specs.Bytes.{no_sense}
-use Rattle.mid_base.specs.declared.answers.By.TheVariants.{Expiry as ByExpiry}
+use Rattle.mid_base.specs.declared.answers.By.TheVariants.{Expiry}
 use Rattle.mid_base.specs.declared.answers.Scope.TheVariants.{Dev, Target, Bus, Host}
+use Rattle.mid_base.specs.Answers.{no_connect, time_out}
 use Rattle.mid_base.specs.declared.entries.Entry.{Entry}
-use Rattle.mid_base.specs.declared.entries.Entry.TheVariants.{Took, Sent, Due, Owned, AbortSet, Aborted, Failed, Cleared, Told, EhBegin, EhEnd, Act, Offline, Tick}
+use Rattle.mid_base.specs.declared.entries.Entry.TheVariants.{EhBegin, EhEnd, Act, Offline, Tick}
 use Rattle.mid_base.specs.declared.host_spec.HostSpec.{HostSpec}
-use Rattle.worked_journals.specs.Parts.{at, test_unit, lun, host}
+use Rattle.worked_journals.specs.Hosts.{host, lun, test_unit, unit}
+use Rattle.worked_journals.specs.Say.{took, sent, due, owned, abort_set, aborted, failed, cleared, told}
 
 abbrev pub no_callbacks_spec : HostSpec
-no_callbacks_spec = host 4 0 (lun 1 ∷ []) (test_unit 1 2 ∷ test_unit 2 2 ∷ [])
+no_callbacks_spec = host 4 0 (lun 1 false) (test_unit 1 2 ∷ test_unit 2 2 ∷ [])
 
 abbrev pub no_callbacks : List Entry
 no_callbacks =
-    Took (record { 0 = 1 }) ∷
-    Took (record { 0 = 2 }) ∷
-    Sent (record { 0 = 1 }) (record { 0 = 1 }) (record { 0 = 0 }) ∷
+    took 1 ∷
+    took 2 ∷
+    sent 1 1 0 ∷
     Tick ∷
     Tick ∷
-    Due (record { 0 = 1 }) ∷
-    Owned (record { 0 = 1 }) ByExpiry ∷
-    AbortSet (record { 0 = 1 }) (record { 0 = 1 }) ∷
-    Aborted (record { 0 = 1 }) (record { 0 = 1 }) false ∷
-    Failed (record { 0 = 1 }) (record { 0 = 1 }) true ∷
+    due 1 ∷
+    owned 1 Expiry ∷
+    abort_set 1 1 ∷
+    aborted 1 1 false ∷
+    failed 1 1 true ∷
     EhBegin ∷
-    Act 4 (Dev (at 0 0 0)) false ∷
+    Act 4 (Dev unit) false ∷
     Act 5 (Target 0 0) false ∷
     Act 6 (Bus 0) false ∷
     Act 7 Host false ∷
-    Act 8 (Dev (at 0 0 0)) true ∷
-    Offline (at 0 0 0) ∷
-    Cleared (record { 0 = 1 }) 8 ∷
-    Told (record { 0 = 1 }) (record { host = record { 0 = 3 }; status = 0; sense = no_sense; moved = 0; sum = 0 }) ∷
+    Act 8 (Dev unit) true ∷
+    Offline unit ∷
+    cleared 1 8 ∷
+    told 1 time_out ∷
     EhEnd ∷
     Tick ∷
-    Told (record { 0 = 2 }) (record { host = record { 0 = 1 }; status = 0; sense = no_sense; moved = 0; sum = 0 }) ∷
+    told 2 no_connect ∷
     []

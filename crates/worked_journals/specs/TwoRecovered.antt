@@ -1,57 +1,58 @@
--- Recovery waits until both commands failed.
+-- Recovery waits until both commands failed. The reset of their device succeeds, a test finds it ready, and both are
+-- sent again.
 use Rattle.std.specs.Prelude.{true, false, List, [], ◌∷◌}
-use Rattle.mid_base.specs.Bytes.{no_sense}
-use Rattle.mid_base.specs.declared.answers.By.TheVariants.{Answer as ByAnswer, Expiry as ByExpiry}
+use Rattle.mid_base.specs.declared.answers.By.TheVariants.{Answer, Expiry}
 use Rattle.mid_base.specs.declared.answers.Disp.TheVariants.{Success}
-use Rattle.mid_base.specs.declared.answers.ProbeSay.TheVariants.{Answered}
 use Rattle.mid_base.specs.declared.answers.Scope.TheVariants.{Dev}
 use Rattle.mid_base.specs.declared.entries.Entry.{Entry}
-use Rattle.mid_base.specs.declared.entries.Entry.TheVariants.{Took, Sent, Ready, Due, Owned, Judged, AbortSet, Aborted, Failed, Cleared, Again, Told, EhBegin, EhEnd, Act, Probe, Tick}
+use Rattle.mid_base.specs.declared.entries.Entry.TheVariants.{EhBegin, EhEnd, Act, Tick}
 use Rattle.mid_base.specs.declared.host_spec.HostSpec.{HostSpec}
-use Rattle.worked_journals.specs.Parts.{at, unit_attention, test_unit, lun, host}
+use Rattle.worked_journals.specs.Hosts.{host, lun, test_unit, unit, device_reset}
+use Rattle.trace_model.specs.Climb.{test_unit_ready}
+use Rattle.worked_journals.specs.Say.{fine, checked, was_reset, took, sent, ready, due, owned, judged, abort_set, aborted, failed, cleared, again, told, probe}
 
 abbrev pub two_recovered_spec : HostSpec
-two_recovered_spec = host 4 2 (lun 8 ∷ []) (test_unit 1 2 ∷ test_unit 2 4 ∷ [])
+two_recovered_spec = host 4 device_reset (lun 8 false) (test_unit 1 2 ∷ test_unit 2 4 ∷ [])
 
 abbrev pub two_recovered : List Entry
 two_recovered =
-    Took (record { 0 = 1 }) ∷
-    Took (record { 0 = 2 }) ∷
-    Sent (record { 0 = 1 }) (record { 0 = 1 }) (record { 0 = 0 }) ∷
-    Sent (record { 0 = 2 }) (record { 0 = 2 }) (record { 0 = 1 }) ∷
+    took 1 ∷
+    took 2 ∷
+    sent 1 1 0 ∷
+    sent 2 2 1 ∷
     Tick ∷
     Tick ∷
-    Due (record { 0 = 1 }) ∷
-    Owned (record { 0 = 1 }) ByExpiry ∷
-    AbortSet (record { 0 = 1 }) (record { 0 = 1 }) ∷
-    Aborted (record { 0 = 1 }) (record { 0 = 1 }) false ∷
-    Failed (record { 0 = 1 }) (record { 0 = 1 }) true ∷
+    due 1 ∷
+    owned 1 Expiry ∷
+    abort_set 1 1 ∷
+    aborted 1 1 false ∷
+    failed 1 1 true ∷
     Tick ∷
     Tick ∷
-    Due (record { 0 = 2 }) ∷
-    Owned (record { 0 = 2 }) ByExpiry ∷
-    AbortSet (record { 0 = 2 }) (record { 0 = 2 }) ∷
-    Aborted (record { 0 = 2 }) (record { 0 = 2 }) false ∷
-    Failed (record { 0 = 2 }) (record { 0 = 2 }) true ∷
+    due 2 ∷
+    owned 2 Expiry ∷
+    abort_set 2 2 ∷
+    aborted 2 2 false ∷
+    failed 2 2 true ∷
     EhBegin ∷
-    Act 4 (Dev (at 0 0 0)) true ∷
-    Probe (at 0 0 0) 0 (Answered (record { host = record { 0 = 0 }; status = 2; sense = unit_attention; moved = 0; sum = 0 })) ∷
-    Probe (at 0 0 0) 0 (Answered (record { host = record { 0 = 0 }; status = 0; sense = no_sense; moved = 0; sum = 0 })) ∷
-    Cleared (record { 0 = 1 }) 4 ∷
-    Cleared (record { 0 = 2 }) 4 ∷
-    Again (record { 0 = 1 }) true ∷
-    Again (record { 0 = 2 }) true ∷
+    Act 4 (Dev unit) true ∷
+    probe test_unit_ready (checked was_reset) ∷
+    probe test_unit_ready fine ∷
+    cleared 1 4 ∷
+    cleared 2 4 ∷
+    again 1 true ∷
+    again 2 true ∷
     EhEnd ∷
     Tick ∷
-    Sent (record { 0 = 1 }) (record { 0 = 3 }) (record { 0 = 0 }) ∷
-    Sent (record { 0 = 2 }) (record { 0 = 4 }) (record { 0 = 1 }) ∷
+    sent 1 3 0 ∷
+    sent 2 4 1 ∷
     Tick ∷
-    Ready (record { 0 = 3 }) (record { host = record { 0 = 0 }; status = 0; sense = no_sense; moved = 0; sum = 0 }) ∷
-    Ready (record { 0 = 4 }) (record { host = record { 0 = 0 }; status = 0; sense = no_sense; moved = 0; sum = 0 }) ∷
-    Owned (record { 0 = 3 }) ByAnswer ∷
-    Owned (record { 0 = 4 }) ByAnswer ∷
-    Judged (record { 0 = 1 }) (record { 0 = 3 }) Success ∷
-    Told (record { 0 = 1 }) (record { host = record { 0 = 0 }; status = 0; sense = no_sense; moved = 0; sum = 0 }) ∷
-    Judged (record { 0 = 2 }) (record { 0 = 4 }) Success ∷
-    Told (record { 0 = 2 }) (record { host = record { 0 = 0 }; status = 0; sense = no_sense; moved = 0; sum = 0 }) ∷
+    ready 3 fine ∷
+    ready 4 fine ∷
+    owned 3 Answer ∷
+    owned 4 Answer ∷
+    judged 1 3 Success ∷
+    told 1 fine ∷
+    judged 2 4 Success ∷
+    told 2 fine ∷
     []
