@@ -1,0 +1,172 @@
+ghost use Rattle.std.specs.Prelude.{◌≡◌, ◌<◌, ◌^◌, OnOk, IfOk, IfSome};
+ghost use Rattle.mid_base.specs.declared.answers.By.{By};
+ghost use Rattle.host_words.specs.Journals.{HasSent, HasCause};
+ghost use Rattle.host_words.specs.Words.{claimed_word};
+ghost use Rattle.host_words.specs.Views.{released_of};
+ghost use Rattle.host_words.specs.Leaving.{IsShownClaimed};
+ghost use Rattle.host_words.specs.Seats.{view, turn, tag_count, IsSeatOf, IsSameTable, IsHolding, GoesOn};
+ghost use Rattle.host_tests.specs.Desks.{entry_of};
+ghost use Rattle.host_tests.specs.Turned.{Turned, Added, IsTold, IsIdle, IsBack};
+
+use crate::{Desk, Note};
+use host_words::{HostSeat, HostTable};
+use mid_base::{Answer, Attempt, By, NoMemory, Tag};
+use std::sync::Wait;
+
+/// A turn that puts one entry behind the others, which arms and owns nothing.
+pub fn made_note<R: Wait>(
+    rt: &R,
+    table: &HostTable<Desk>,
+    seat: &mut HostSeat<Desk>,
+    note: Note,
+) -> Result<(), NoMemory>
+    requires { IsIdle table.now seat.old }
+    ensures table { IsSameTable seat.old seat.new }
+    ensures turn { Turned (view seat.old) (view seat.new) }
+    ensures added { OnOk result (Added (view seat.old) (entry_of note) (view seat.new)) }
+{
+    let mut desk = table.enter(rt, seat);
+    let noted = desk.note(note);
+    table.leave(seat, desk);
+    noted
+}
+
+/// A turn that sends the next attempt under a tag, and arms the tag; None where the tag isn't free.
+pub fn sent<R: Wait>(
+    rt: &R,
+    table: &HostTable<Desk>,
+    seat: &mut HostSeat<Desk>,
+    t: Tag,
+) -> Result<Option<Attempt>, NoMemory>
+    requires seat { IsIdle table.now seat.old }
+    requires tag { t.0 < tag_count table.now }
+    ensures table { IsSameTable seat.old seat.new }
+    ensures turn { Turned (view seat.old) (view seat.new) }
+    ensures sent { IfOk result (λ o. IfSome o (λ n. (n.0 < 2 ^ 60) × HasSent (view seat.new).seen t.0 n)) }
+{
+    let mut desk = table.enter(rt, seat);
+    match desk.send(t) {
+        Ok(Some(n)) => {
+            table.arm(seat, t, n);
+            table.leave(seat, desk);
+            Ok(Some(n))
+        }
+        Ok(None) => {
+            table.leave(seat, desk);
+            Ok(None)
+        }
+        Err(_) => {
+            table.leave(seat, desk);
+            Err(NoMemory)
+        }
+    }
+}
+
+/// A turn that enters the answer of an attempt.
+pub fn answered<R: Wait>(
+    rt: &R,
+    table: &HostTable<Desk>,
+    seat: &mut HostSeat<Desk>,
+    t: Tag,
+    n: Attempt,
+    answer: Answer,
+) -> Result<(), NoMemory>
+    requires seat { IsIdle table.now seat.old }
+    requires sent { HasSent (view seat.old).seen t.0 n }
+    ensures table { IsSameTable seat.old seat.new }
+    ensures turn { Turned (view seat.old) (view seat.new) }
+    ensures cause { OnOk result (HasCause (view seat.new).seen t.0 n By.Answer) }
+{
+    let _ = t;
+    match made_note(rt, table, seat, Note::Answered(n, answer)) {
+        Ok(()) => Ok(()),
+        Err(_) => Err(NoMemory),
+    }
+}
+
+/// A turn that enters that the time of an attempt is up.
+pub fn overdue<R: Wait>(
+    rt: &R,
+    table: &HostTable<Desk>,
+    seat: &mut HostSeat<Desk>,
+    t: Tag,
+    n: Attempt,
+) -> Result<(), NoMemory>
+    requires seat { IsIdle table.now seat.old }
+    requires sent { HasSent (view seat.old).seen t.0 n }
+    ensures table { IsSameTable seat.old seat.new }
+    ensures turn { Turned (view seat.old) (view seat.new) }
+    ensures cause { OnOk result (HasCause (view seat.new).seen t.0 n By.Expiry) }
+{
+    let _ = t;
+    match made_note(rt, table, seat, Note::Overdue(n)) {
+        Ok(()) => Ok(()),
+        Err(_) => Err(NoMemory),
+    }
+}
+
+/// Three turns: the next attempt is sent under a tag, is answered, and its time is up. None where the tag isn't free.
+#[tactic(auto, using(crate::proofs::Turns::turned_on, crate::proofs::Turns::goes_nowhere))]
+pub fn sent_and_told<R: Wait>(
+    rt: &R,
+    table: &HostTable<Desk>,
+    seat: &mut HostSeat<Desk>,
+    t: Tag,
+    answer: Answer,
+) -> Result<Option<Attempt>, NoMemory>
+    requires seat { IsIdle table.now seat.old }
+    requires tag { t.0 < tag_count table.now }
+    ensures back { IsBack table.now seat.old seat.new }
+    ensures told { IfOk result (λ o. IfSome o (λ n. (n.0 < 2 ^ 60) × IsTold (view seat.new).seen t.0 n)) }
+{
+    let Some(n) = sent(rt, table, seat, t)? else {
+        return Ok(None);
+    };
+    answered(rt, table, seat, t, n, answer)?;
+    overdue(rt, table, seat, t, n)?;
+    Ok(Some(n))
+}
+
+// Frees a tag for the claim that a look of this turn showed.
+fn released(table: &HostTable<Desk>, seat: &mut HostSeat<Desk>, t: Tag, n: Attempt, by: By)
+    requires table { IsSeatOf table.now seat.old }
+    requires turn { IsHolding seat.old }
+    requires tag { t.0 < tag_count table.now }
+    requires shown { IsShownClaimed (turn seat.old) t.0 n by }
+    ensures { GoesOn seat.old (released_of (turn seat.old) t.0 (claimed_word n by)) seat.new }
+{
+    let _ = (n, by);
+    table.release(seat, t);
+}
+
+/// A turn that looks at the word of a tag, and where it is claimed enters the owner, settles the attempt and frees the
+/// tag. False where it isn't.
+pub fn settled<R: Wait>(
+    rt: &R,
+    table: &HostTable<Desk>,
+    seat: &mut HostSeat<Desk>,
+    t: Tag,
+) -> Result<bool, NoMemory>
+    requires seat { IsIdle table.now seat.old }
+    requires tag { t.0 < tag_count table.now }
+    ensures table { IsSameTable seat.old seat.new }
+    ensures turn { Turned (view seat.old) (view seat.new) }
+{
+    let mut desk = table.enter(rt, seat);
+    let word = table.look(seat, t);
+    match desk.settle(t, word) {
+        Ok(Some((n, by))) => {
+            released(table, seat, t, n, by);
+            table.leave(seat, desk);
+            Ok(true)
+        }
+        Ok(None) => {
+            table.leave(seat, desk);
+            Ok(false)
+        }
+        Err(_) => {
+            table.leave(seat, desk);
+            Err(NoMemory)
+        }
+    }
+}

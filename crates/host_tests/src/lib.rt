@@ -1,0 +1,16 @@
+//! Callers of a host's table, over a small state that is a list of entries and the states of tags, and the tests of the
+//! table with threads.
+//!
+//! Each caller makes one turn. That it may end its turn as it does is proved, from the clauses of the table's calls alone.
+#![tactic(auto)]
+
+mod callers;
+mod changes;
+mod desk;
+#[cfg(test)]
+mod tests;
+mod workers;
+
+pub use callers::{answered, made_note, overdue, sent, sent_and_told, settled};
+pub use desk::{Desk, Note};
+pub use workers::{claimed_all, filled, sent_all};

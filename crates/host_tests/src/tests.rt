@@ -1,0 +1,254 @@
+ghost use Rattle.std.specs.Prelude.{◌≡◌, ◌≤◌, ◌+◌, IfOk};
+ghost use Rattle.std.specs.Thread.{IsSync};
+ghost use Rattle.host_words.specs.Seats.{view, tag_count};
+ghost use Rattle.host_tests.specs.Turned.{IsIdle, IsReady, IsBack};
+
+use super::*;
+use bitflags::Flags;
+use host_words::{Claim, HostSeat, HostTable, WordSeen};
+use mid_base::{
+    Answer, Attempt, By, DID_OK, Entry, GOOD, Handlers, HostNo, HostSpec, NoMemory, Rows,
+    SenseBytes, Tag,
+};
+use std::alloc::Global;
+use std::sync::Wait;
+use std::test::Fail;
+use std::thread::{Threads, join};
+
+const EACH: u32 = 100;
+
+const ATTEMPTS: u16 = 1000;
+
+// DID_OK and GOOD, nothing moved.
+fn good() -> Answer {
+    Answer {
+        host: DID_OK,
+        status: GOOD,
+        sense: SenseBytes::empty(),
+        moved: 0,
+        sum: 0,
+    }
+}
+
+fn plain_host(alloc: Global) -> HostSpec {
+    HostSpec {
+        no: HostNo(0),
+        can_queue: 1,
+        handlers: Handlers::from_bits_retain(0),
+        no_async_abort: false,
+        luns: Rows::new(alloc),
+        cmds: Rows::new(alloc),
+        plan: Rows::new(alloc),
+    }
+}
+
+// A table over a desk without entries.
+fn table_of(alloc: Global, tags: u16) -> Result<(HostTable<Desk>, HostSeat<Desk>), NoMemory>
+    ensures seat { IfOk result (λ t. IsIdle t.0 t.1 × ((view t.1).share ≡ 65536)) }
+    ensures tags { IfOk result (λ t. tag_count t.0 ≡ tags) }
+{
+    let desk = Desk::new(alloc, plain_host(alloc), tags)?;
+    HostTable::new(alloc, desk, tags)
+}
+
+fn two_turns<R: Wait>(rt: &R, alloc: Global) -> Result<Desk, NoMemory> {
+    let (table, mut first) = table_of(alloc, 0)?;
+    let mut second = table.split(&mut first);
+    made_note(rt, &table, &mut first, Note::Begun)?;
+    made_note(rt, &table, &mut second, Note::Ended)?;
+    table.join(&mut first, second);
+    Ok(table.close(first))
+}
+
+#[test]
+fn two_turns_are_kept_in_order(rt: HostRuntime) -> Result<(), Fail> {
+    let desk = two_turns(&rt, rt.alloc())?;
+    assert!(rt; desk.entries() == [Entry::EhBegin, Entry::EhEnd].as_slice());
+    Ok(())
+}
+
+// Whether three claims on tag 0 answer what they should: one for its old attempt while it is armed for attempt 2, and two
+// for attempt 2.
+fn a_reused_tag_is_kept_apart<R: Wait>(rt: &R, alloc: Global) -> Result<bool, NoMemory> {
+    let (table, mut seat) = table_of(alloc, 1)?;
+    let Some(first) = sent_and_told(rt, &table, &mut seat, Tag(0), good())? else {
+        return Ok(false);
+    };
+    table.claim(&mut seat, Tag(0), first, By::Answer);
+    settled(rt, &table, &mut seat, Tag(0))?;
+    let Some(second) = sent_and_told(rt, &table, &mut seat, Tag(0), good())? else {
+        return Ok(false);
+    };
+    let old = table.claim(&mut seat, Tag(0), first, By::Answer);
+    let new = table.claim(&mut seat, Tag(0), second, By::Answer);
+    let again = table.claim(&mut seat, Tag(0), second, By::Answer);
+    Ok(
+        old == Claim::Lost(WordSeen::Armed(Attempt(2)))
+            && new == Claim::Won
+            && again == Claim::Lost(WordSeen::Done(Attempt(2))),
+    )
+}
+
+#[test]
+fn an_old_claim_on_a_reused_tag_is_lost(rt: HostRuntime) -> Result<(), Fail> {
+    assert!(rt; a_reused_tag_is_kept_apart(&rt, rt.alloc())?);
+    Ok(())
+}
+
+type Filled = (HostSeat<Desk>, bool);
+
+fn fills<R: Wait>(rt: &R, table: &HostTable<Desk>, mut seat: HostSeat<Desk>) -> Filled
+    requires { IsIdle table.now seat }
+    ensures { IsBack table.now seat result.0 }
+{
+    let done = filled(rt, table, &mut seat, EACH).is_ok();
+    (seat, done)
+}
+
+fn two_fill<R: Threads + Wait + Sync>(
+    rt: &R,
+    table: &HostTable<Desk>,
+    first: HostSeat<Desk>,
+    second: HostSeat<Desk>,
+) -> (Filled, Filled)
+    requires { IsIdle table.now first × IsIdle table.now second }
+    ensures { IsBack table.now first result.0.0 × IsBack table.now second result.1.0 }
+{
+    join(
+        rt,
+        || -> Filled
+            requires { IsIdle table.now first }
+            ensures { IsBack table.entry.now first result.0 }
+        { fills(rt, table, first) },
+        || -> Filled
+            requires { IsIdle table.now second }
+            ensures { IsBack table.entry.now second result.0 }
+        { fills(rt, table, second) },
+    )
+}
+
+// How many entries two threads make.
+fn entries_of_two<R: Threads + Wait + Sync>(rt: &R, alloc: Global) -> Result<usize, NoMemory> {
+    let (table, mut first) = table_of(alloc, 0)?;
+    let second = table.split(&mut first);
+    let ((mut first, _), (second, _)) = two_fill(rt, &table, first, second);
+    table.join(&mut first, second);
+    Ok(table.close(first).entries().len())
+}
+
+#[test]
+fn two_threads_lose_no_entry(rt: HostRuntime) -> Result<(), Fail> {
+    assert_eq!(rt; entries_of_two(&rt, rt.alloc())?, 200);
+    Ok(())
+}
+
+type Claimed = (HostSeat<Desk>, Option<Vec<bool>>);
+
+fn claims(alloc: Global, table: &HostTable<Desk>, mut seat: HostSeat<Desk>, by: By) -> Claimed
+    requires { IsReady table.now seat }
+    ensures { IsBack table.now seat result.0 }
+{
+    let won = claimed_all(alloc, table, &mut seat, ATTEMPTS, by).ok();
+    (seat, won)
+}
+
+// One claims by answer, the other by expiry.
+fn two_claim<R: Threads + Sync>(
+    rt: &R,
+    alloc: Global,
+    table: &HostTable<Desk>,
+    first: HostSeat<Desk>,
+    second: HostSeat<Desk>,
+) -> (Claimed, Claimed)
+    requires { IsReady table.now first × IsReady table.now second }
+    ensures { IsBack table.now first result.0.0 × IsBack table.now second result.1.0 }
+{
+    join(
+        rt,
+        || -> Claimed
+            requires { IsReady table.now first }
+            ensures { IsBack table.entry.now first result.0 }
+        { claims(alloc, table, first, By::Answer) },
+        || -> Claimed
+            requires { IsReady table.now second }
+            ensures { IsBack table.entry.now second result.0 }
+        { claims(alloc, table, second, By::Expiry) },
+    )
+}
+
+fn four_claim<R: Threads + Sync>(
+    rt: &R,
+    alloc: Global,
+    table: &HostTable<Desk>,
+    one: (HostSeat<Desk>, HostSeat<Desk>),
+    other: (HostSeat<Desk>, HostSeat<Desk>),
+) -> ((Claimed, Claimed), (Claimed, Claimed))
+    requires one { IsReady table.now one.0 × IsReady table.now one.1 }
+    requires other { IsReady table.now other.0 × IsReady table.now other.1 }
+    ensures one { IsBack table.now one.0 result.0.0.0 × IsBack table.now one.1 result.0.1.0 }
+    ensures other { IsBack table.now other.0 result.1.0.0 × IsBack table.now other.1 result.1.1.0 }
+{
+    let (first, second) = one;
+    let (third, fourth) = other;
+    join(
+        rt,
+        || -> (Claimed, Claimed)
+            requires { IsReady table.now first × IsReady table.now second × IsSync R.row }
+            ensures { IsBack table.entry.now first result.0.0 × IsBack table.entry.now second result.1.0 }
+        { two_claim(rt, alloc, table, first, second) },
+        || -> (Claimed, Claimed)
+            requires { IsReady table.now third × IsReady table.now fourth × IsSync R.row }
+            ensures { IsBack table.entry.now third result.0.0 × IsBack table.entry.now fourth result.1.0 }
+        { two_claim(rt, alloc, table, third, fourth) },
+    )
+}
+
+fn ready_split(table: &HostTable<Desk>, seat: &mut HostSeat<Desk>) -> HostSeat<Desk>
+    requires ready { IsReady table.now seat.old }
+    requires share { 2 ≤ (view seat.old).share }
+    ensures ready { IsReady table.now seat.new × IsReady table.now result }
+    ensures share { ((view seat.new).share + 1 ≡ (view seat.old).share) × ((view result).share ≡ 1) }
+{
+    table.split(seat)
+}
+
+// How many of four threads won each attempt.
+fn winners(won: &[Option<Vec<bool>>], i: usize) -> usize {
+    won.iter()
+        .filter(|one| one.as_ref().and_then(|all| all.get(i)) == Some(&true))
+        .count()
+}
+
+// What four threads won that claim the same attempts at once, two by answer and two by expiry.
+fn won_by_four<R: Threads + Wait + Sync>(
+    rt: &R,
+    alloc: Global,
+) -> Result<Option<[Option<Vec<bool>>; 4]>, NoMemory> {
+    let (table, mut first) = table_of(alloc, ATTEMPTS)?;
+    if !sent_all(rt, &table, &mut first, ATTEMPTS, good())? {
+        return Ok(None);
+    }
+    let second = ready_split(&table, &mut first);
+    let third = ready_split(&table, &mut first);
+    let fourth = ready_split(&table, &mut first);
+    let (one, other) = four_claim(rt, alloc, &table, (first, second), (third, fourth));
+    let ((mut first, a), (second, b)) = one;
+    let ((third, c), (fourth, d)) = other;
+    table.join(&mut first, second);
+    table.join(&mut first, third);
+    table.join(&mut first, fourth);
+    table.close(first);
+    Ok(Some([a, b, c, d]))
+}
+
+#[test]
+fn each_attempt_has_one_winner_of_four_threads(rt: HostRuntime) -> Result<(), Fail> {
+    let Some(won) = won_by_four(&rt, rt.alloc())? else {
+        assert!(rt; false);
+        return Ok(());
+    };
+    for i in 0..1000 {
+        assert_eq!(rt; winners(&won, i), 1, "{i}");
+    }
+    Ok(())
+}

@@ -1,0 +1,18 @@
+use Rattle.std.proofs.Common.{rules, ap, ◌∙◌, sym, refl}
+use Rattle.host_words.specs.Carried.{carried}
+use Rattle.host_words.specs.Views.{turn_of}
+use Rattle.host_words.proofs.Turning.{frees}
+use Rattle.host_words.proofs.host_table.HostTable.release.Goals as goal
+
+pub swap-requires : goal.swap-requires
+swap-requires g c = let x = c.requires.shown in (search rules, search rules, frees _ _ _ _ _ _ _ _ c.args.t.0 x.0 c.requires.turn.0 x.1 (turn_of c.args.seat.now.seat.me.0.stage) c.requires.turn.1 x.2)
+
+pub invariant_of-seat : goal.invariant_of-seat
+invariant_of-seat g c =
+    let is = c.requires.turn in
+    let x = c.requires.shown in
+    let known = c.swap.ensures.2.1 c.args.t.0 x.0 is.0 x.1 (turn_of c.args.seat.now.seat.me.0.stage) is.1 refl x.2 in
+    record {
+      carries = c.swap.ensures.2.0 ∙ (c.args.seat.now.carries ∙ (ap carried is.1 ∙ sym (ap carried (ap (λ v. v.stage) known))));
+      has_share = λ e. c.args.seat.now.has_share (sym (ap (λ v. v.share) known) ∙ e);
+    }

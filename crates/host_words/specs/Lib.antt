@@ -1,0 +1,9 @@
+pub mod Journals
+pub mod Words
+pub mod Carried
+pub mod Views
+pub mod Owners
+pub mod Leaving
+pub mod Hosted
+pub mod Tells
+pub mod Seats
