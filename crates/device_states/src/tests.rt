@@ -1,5 +1,6 @@
 use crate::{Illegal, can_send, online, set_device, set_host};
 use mid_base::{DeviceState, HostState};
+use std::process::Abort;
 
 const DEVICE_STATES: [DeviceState; 7] = [
     DeviceState::Created,
@@ -12,15 +13,15 @@ const DEVICE_STATES: [DeviceState; 7] = [
 ];
 
 // A line for each state that is asked for: an x under each state that may go there.
-const DEVICE_TABLE: [&str; 7] = [
-    // created running quiesce block offline cancel del
-    ". . . . . . .", // created
-    "x . x x x . .", // running
-    ". x . . . . .", // quiesce
-    ". x . . . . .", // block
-    "x x x x . . .", // offline
-    "x x x x x . .", // cancel
-    "x . . . . x .", // del
+const DEVICE_TABLE: [&[u8]; 7] = [
+    // From created, running, quiesce, block, offline, cancel, del.
+    b".......", // created
+    b"x.xxx..", // running
+    b".x.....", // quiesce
+    b".x.....", // block
+    b"xxxx...", // offline
+    b"xxxxx..", // cancel
+    b"x....x.", // del
 ];
 
 const HOST_STATES: [HostState; 7] = [
@@ -33,20 +34,20 @@ const HOST_STATES: [HostState; 7] = [
     HostState::Del,
 ];
 
-const HOST_TABLE: [&str; 7] = [
-    // created running recovery cancel cancel-recovery del-recovery del
-    ". . . . . . .", // created
-    "x . x . . . .", // running
-    ". x . . . . .", // recovery
-    "x x . . x . .", // cancel
-    ". . x x . . .", // cancel-recovery
-    ". . . . x . .", // del-recovery
-    ". . . x . x .", // del
+const HOST_TABLE: [&[u8]; 7] = [
+    // From created, running, recovery, cancel, cancel-recovery, del-recovery, del.
+    b".......", // created
+    b"x.x....", // running
+    b".x.....", // recovery
+    b"xx..x..", // cancel
+    b"..xx...", // cancel-recovery
+    b"....x..", // del-recovery
+    b"...x.x.", // del
 ];
 
 // Whether the line of a table has an x in this column.
-fn is_marked(line: &str, column: usize) -> bool {
-    line.as_bytes().get(2 * column) == Some(&b'x')
+fn is_marked(line: &[u8], column: usize) -> bool {
+    line.get(column) == Some(&b'x')
 }
 
 fn check_device(rt: &impl Abort, had: DeviceState, asked: DeviceState, legal: bool) {

@@ -39,6 +39,7 @@ fn by_host_byte(a: &Answer) -> Disp
         DID_NO_CONNECT | DID_BAD_TARGET | DID_ABORT | DID_RESET => Disp::Success,
         DID_BUS_BUSY | DID_PARITY | DID_ERROR | DID_SOFT_ERROR => Disp::Retry,
         DID_IMM_RETRY | DID_REQUEUE => Disp::Requeue,
+        // DID_TIME_OUT, and the host bytes that have no name here.
         _ => Disp::Fail,
     }
 }

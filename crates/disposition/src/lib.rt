@@ -7,6 +7,8 @@
 #![tactic(auto)]
 
 mod judging;
+#[cfg(test)]
+mod tests;
 mod todo;
 
 pub use judging::{check_sense, decide};

@@ -1,5 +1,5 @@
 ghost use Rattle.std.specs.Prelude.{◌≡◌, ◌↔◌, ◌≤◌, ◌<◌, ◌+◌, true, [], ◌∷◌, length, reverse, IfOk, IsOk, OnOk, IsTrue};
-ghost use Rattle.mid_base.specs.Address.{has_dev, same_dev};
+ghost use Rattle.mid_base.specs.Address.{has_dev};
 ghost use Rattle.mid_base.specs.Limits.{KeepsLimits};
 ghost use Rattle.mid_base.specs.declared.steps.Step.TheVariants as steps;
 ghost use Rattle.trace_model.specs.Devices.{state};
@@ -14,10 +14,11 @@ use core_tables::Running;
 use host_template::{HostTemplate, Queued};
 use mid_base::{
     Attempt, BusyOf, By, CmdSpec, DevAddr, DeviceState, Did, Disp, Entry, HostSpec, LaneNo,
-    LunSpec, NoMemory, Rows, Step, Tag, TagState, Why,
+    LunSpec, NoMemory, Rows, Step, Tag, TagState, Why, same_dev,
 };
 use std::alloc::Global;
 use std::marker::Model;
+use trace_model::Booked;
 
 /// The core of one host over its lower layer.
 #[derive(Drop)]
@@ -38,6 +39,16 @@ impl<A: HostTemplate> Model for Core<A> {
     ghost view = { λ c. record { spec = c.spec; before = c.before; journal = c.book.entries; tags = c.running.tags.items; spare = c.book.spare; lower = c.lower } };
 
     ghost invariant = { λ c. IsCore A.stands c.spec c.before c.lower (reverse c.book.entries) c.running };
+}
+
+impl<A: HostTemplate> Booked for Core<A> {
+    ghost spec = { λ c. c.spec };
+
+    ghost before = { λ c. c.before };
+
+    ghost journal = { λ c. c.journal };
+
+    ghost tags = { λ c. c.tags };
 }
 
 impl<A: HostTemplate> Core<A> {
@@ -293,15 +304,9 @@ fn start_of(luns: &[LunSpec], dev: DevAddr) -> DeviceState
     ensures { result ≡ start_in luns.now dev }
 {
     for lun in luns {
-        if same_address(lun.dev, dev) {
+        if same_dev(lun.dev, dev) {
             return lun.start;
         }
     }
     DeviceState::Del
-}
-
-fn same_address(a: DevAddr, b: DevAddr) -> bool
-    ensures { result ≡ same_dev a b }
-{
-    a.channel == b.channel && a.target == b.target && a.lun == b.lun
 }

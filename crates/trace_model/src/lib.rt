@@ -5,10 +5,12 @@
 //! looked back over has its newest entry first; a journal has its oldest entry first.
 #![tactic(auto)]
 
+mod booked;
 mod laws;
 mod standing;
 mod worked;
 
+pub use booked::Booked;
 pub use laws::{
     acts_are_quiet, each_attempt_has_one_owner, each_command_is_told_once, groups_are_places,
     legal_journals_keep_the_headline, nothing_follows_a_report, places_are_groups,
