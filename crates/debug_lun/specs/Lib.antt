@@ -1,0 +1,4 @@
+pub mod Units
+pub mod Commands
+pub mod Pages
+pub mod Serving
