@@ -1,0 +1,4 @@
+pub mod Counted
+pub mod Held
+pub mod Units
+pub mod LowerRun
