@@ -1,6 +1,8 @@
-ghost use Rattle.std.specs.Prelude.{◌≡◌, ◌+◌, ◌<◌, ◌≤◌, [], ◌∷◌, ◌++◌, IfOk, IsOk, OnOk};
+ghost use Rattle.std.specs.Prelude.{◌≡◌, ◌+◌, ◌<◌, ◌≤◌, [], ◌∷◌, ◌++◌, length, reverse, IfOk, IsOk, OnOk};
+ghost use Rattle.trace_model.specs.Commands.{trace};
 
-use mid_base::{Entry, NoMemory};
+use crate::Trace;
+use mid_base::{CmdId, Entry, NoMemory};
 use std::alloc::Global;
 use std::marker::Model;
 
@@ -64,6 +66,20 @@ impl CoreBook {
         self.room -= 1;
     }
 
+    /// The trace of a command: its entries and those of its attempts, the oldest first.
+    pub fn of(&self, c: CmdId) -> Trace<'_>
+        ensures { result ≡ reverse (trace c.0 (reverse self.now.entries)) }
+    {
+        Trace::new(c, &self.items)
+    }
+
+    /// How many entries there are.
+    pub fn len(&self) -> usize
+        ensures { result ≡ length self.now.entries }
+    {
+        self.items.len()
+    }
+
     /// The entries, the oldest first.
     pub fn entries(&self) -> &[Entry]
         ensures { result.now ≡ self.now.entries }
@@ -75,7 +91,7 @@ impl CoreBook {
 #[cfg(test)]
 mod tests {
     use super::*;
-    use mid_base::CmdId;
+    use mid_base::{Attempt, By, Tag};
     use std::test::Fail;
 
     #[test]
@@ -98,6 +114,48 @@ mod tests {
             book.entries(),
             [Entry::Took(CmdId(7)), Entry::Tick, Entry::EhBegin].as_slice()
         );
+        Ok(())
+    }
+
+    // A journal of two commands, whose entries interleave.
+    const BOTH: [Entry; 9] = [
+        Entry::Took(CmdId(1)),
+        Entry::Took(CmdId(2)),
+        Entry::Late(Attempt(1)),
+        Entry::Sent(CmdId(1), Attempt(1), Tag(0)),
+        Entry::Sent(CmdId(2), Attempt(2), Tag(1)),
+        Entry::Tick,
+        Entry::Due(Attempt(2)),
+        Entry::Owned(Attempt(1), By::Answer),
+        Entry::Again(CmdId(1), false),
+    ];
+
+    #[test]
+    fn a_trace_has_the_entries_of_its_command_and_of_its_attempts(
+        rt: HostRuntime,
+    ) -> Result<(), Fail> {
+        let Ok(mut book) = CoreBook::new(rt.alloc(), 9) else {
+            assert!(rt; false, "room for nine entries");
+            return Ok(());
+        };
+        for e in BOTH {
+            if book.reserve(1).is_ok() {
+                book.push(e);
+            }
+        }
+        assert_eq!(rt; book.len(), 9);
+        let mut first = book.of(CmdId(1));
+        assert!(rt; first.next() == Some(BOTH[0]));
+        assert!(rt; first.next() == Some(BOTH[3]));
+        assert!(rt; first.next() == Some(BOTH[7]));
+        assert!(rt; first.next() == Some(BOTH[8]));
+        assert!(rt; first.next() == None);
+        let mut second = book.of(CmdId(2));
+        assert!(rt; second.next() == Some(BOTH[1]));
+        assert!(rt; second.next() == Some(BOTH[4]));
+        assert!(rt; second.next() == Some(BOTH[6]));
+        assert!(rt; second.next() == None);
+        assert!(rt; book.of(CmdId(3)).next() == None);
         Ok(())
     }
 }

@@ -2,5 +2,7 @@
 #![tactic(auto)]
 
 mod book;
+mod trace;
 
 pub use book::CoreBook;
+pub use trace::Trace;

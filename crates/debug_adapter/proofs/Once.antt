@@ -20,10 +20,10 @@ use Rattle.mid_base.proofs.Same.{same_sense}
 use Rattle.host_template.specs.Standing.{Before}
 use Rattle.fault_plan.specs.declared.class.Class.TheVariants.{Queue}
 use Rattle.debug_lun.specs.Units.{Reply, reply_of}
-use Rattle.debug_adapter.specs.declared.held.Held.{Held}
-use Rattle.debug_adapter.specs.Counted.{device_of, hit_at}
-use Rattle.debug_adapter.specs.Held.{held, precedes, precedes_held, IsNext}
-use Rattle.debug_adapter.specs.Units.{unit, target_luns, outcome, reply_said}
+use Rattle.adapter_tables.specs.declared.held.Held.{Held}
+use Rattle.adapter_tables.specs.Counted.{device_of, hit_at}
+use Rattle.adapter_tables.specs.Held.{held, precedes, precedes_held, IsNext}
+use Rattle.adapter_tables.specs.Units.{unit, target_luns, outcome, reply_said}
 use Rattle.debug_adapter.specs.LowerRun.{Bounces, MayAnswer, LowerRun}
 
 -- an answer is what is said of it

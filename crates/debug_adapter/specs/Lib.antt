@@ -1,4 +1,2 @@
-pub mod Counted
-pub mod Held
-pub mod Units
 pub mod LowerRun
+pub mod Stands

@@ -20,10 +20,10 @@ use Rattle.host_template.specs.Standing.{Before}
 use Rattle.fault_plan.specs.declared.class.Class.{Class}
 use Rattle.fault_plan.specs.declared.class.Class.TheVariants.{Queue, Timer, Abort, ResetDevice, ResetTarget, ResetBus, ResetHost}
 use Rattle.debug_lun.specs.Units.{reply_of}
-use Rattle.debug_adapter.specs.declared.held.Held.{Held}
-use Rattle.debug_adapter.specs.Counted.{device_of, hit_at, any_hit}
-use Rattle.debug_adapter.specs.Held.{held, is_reset, is_due_held, IsNext}
-use Rattle.debug_adapter.specs.Units.{unit, target_luns, outcome, probe_gives, reply_in, data_in, reply_said, is_good_reply}
+use Rattle.adapter_tables.specs.declared.held.Held.{Held}
+use Rattle.adapter_tables.specs.Counted.{device_of, hit_at, any_hit}
+use Rattle.adapter_tables.specs.Held.{held, is_reset, is_due_held, IsNext}
+use Rattle.adapter_tables.specs.Units.{unit, target_luns, outcome, probe_gives, reply_in, data_in, reply_said, is_good_reply}
 
 -- a busy answer, and of whom
 abbrev pub Bounces : Option Fault → BusyOf → Type 0

@@ -5,7 +5,8 @@ use Rattle.mid_base.specs.declared.entries.Entry.TheVariants.{Took, Sent, Bounce
 use Rattle.mid_base.specs.Past.{attempt_of}
 use Rattle.trace_model.specs.Commands.{is_own, retries}
 use Rattle.trace_model.specs.Flush.{last_own}
-use Rattle.report_text.specs.Tables.{kind_of, row_of, next_row}
+use Rattle.report_text.specs.Results.{kind_of}
+use Rattle.report_text.specs.Tables.{row_of, next_row}
 use Rattle.report_text.specs.declared.gather.Row.{Row}
 
 -- one test on both sides

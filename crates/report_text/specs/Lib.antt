@@ -6,3 +6,4 @@ pub mod Order
 pub mod Results
 pub mod Text
 pub mod Tables
+pub mod Readings

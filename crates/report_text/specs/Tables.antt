@@ -1,36 +1,19 @@
 -- The tables that a walk over a journal fills, and what they say of it. P has the newest entry first.
-use Rattle.std.specs.Prelude.{◌≡◌, ℕ, ◌+◌, ◌==◌, Bool, true, false, if◌then◌else◌, List, [], Option, None, Some, unwrap_or}
+use Rattle.std.specs.Prelude.{◌≡◌, ℕ, ◌+◌, ◌==◌, Bool, true, false, List, [], Option, None, Some, unwrap_or}
 use Rattle.std.specs.Ordering.{nat_cmp}
 use Rattle.std.specs.BTreeMap.{BTreeMap, get}
 use Rattle.mid_base.specs.Past.{attempt_of}
 use Rattle.mid_base.specs.declared.answers.By.{By}
 use Rattle.mid_base.specs.declared.entries.Entry.{Entry}
-use Rattle.mid_base.specs.declared.entries.Entry.TheVariants.{Sent, Judged, Aborted, Cleared, Again, Tick}
-use Rattle.trace_model.specs.Attempts.{owner, is_by_answer}
+use Rattle.mid_base.specs.declared.entries.Entry.TheVariants.{Sent, Again, Tick}
+use Rattle.trace_model.specs.Attempts.{owner}
 use Rattle.trace_model.specs.Commands.{retries}
 use Rattle.trace_model.specs.Flush.{last_own}
-use Rattle.report_text.specs.Results.{report, result_text}
-use Rattle.report_text.specs.declared.results.Ended.{Ended}
-use Rattle.report_text.specs.declared.results.Ended.TheVariants.{Answered, TimedOut, NotConnected}
+use Rattle.report_text.specs.Results.{kind_of, report, result_text}
 use Rattle.report_text.specs.declared.results.Report.{Report}
-use Rattle.report_text.specs.declared.gather.LastOwn.{LastOwn}
-use Rattle.report_text.specs.declared.gather.LastOwn.TheVariants as last
+use Rattle.report_text.specs.declared.results.LastOwn.TheVariants as last
 use Rattle.report_text.specs.declared.gather.Row.{Row}
 use Rattle.report_text.specs.declared.gather.Results.{Results}
-
--- the kind of the last entry that names a command
-abbrev pub kind_of : Option Entry → LastOwn
-kind_of (Some (Judged c n d)) = last.Judged
-kind_of (Some (Aborted c n ok)) = last.Aborted
-kind_of (Some (Cleared c level)) = last.Cleared
-kind_of e = last.Other
-
--- how a command ended, by that kind and the owner of its last attempt
-abbrev pub ended_at : LastOwn → Option By → Ended
-ended_at last.Judged by = Answered
-ended_at last.Aborted by = TimedOut
-ended_at last.Cleared by = if is_by_answer by then Answered else TimedOut
-ended_at last.Other by = NotConnected
 
 -- what P says of c
 abbrev pub row_of : ℕ → List Entry → Row

@@ -6,7 +6,7 @@ use Rattle.mid_base.specs.Past.{ticks}
 use Rattle.mid_base.specs.declared.entries.Entry.{Entry}
 use Rattle.mid_base.specs.declared.host_spec.CmdSpec.{CmdSpec}
 use Rattle.mid_base.specs.declared.steps.Why.{Why}
-use Rattle.report_text.specs.Pieces.{space, newline}
+use Rattle.report_text.specs.Pieces.{line}
 use Rattle.report_text.specs.Words.{why_word}
 use Rattle.report_text.specs.Entries.{entry_text}
 use Rattle.report_text.specs.Order.{ascending}
@@ -14,7 +14,7 @@ use Rattle.report_text.specs.Results.{result_line}
 
 -- the line of an entry at a tick
 abbrev pub entry_line : ℕ → Entry → List ℕ
-entry_line tick e = decimal tick ++ (space ++ (entry_text e ++ newline))
+entry_line tick e = line (decimal tick ∷ entry_text e ∷ [])
 
 -- the lines of entries, the newest entry first; the tick of an entry is the number of Tick entries before it
 abbrev pub entry_lines : List Entry → List ℕ
@@ -26,7 +26,7 @@ abbrev pub ids_of : List CmdSpec → List ℕ
 ids_of cmds = ascending (λ c. c) (map (λ k. k.id.0) cmds)
 
 abbrev pub host_line : ℕ → List ℕ
-host_line number = codes "host " ++ (decimal number ++ newline)
+host_line number = line (codes "host" ∷ decimal number ∷ [])
 
 -- the lines of a host, from `host H` to its last result
 abbrev pub host_text : ℕ → List CmdSpec → List Entry → List ℕ
@@ -35,10 +35,10 @@ host_text number cmds journal =
 
 -- a step line that was skipped, by its number, and why
 abbrev pub skip_line : ℕ × Why → List ℕ
-skip_line skip = codes "skipped " ++ (decimal skip.0 ++ (space ++ (why_word skip.1 ++ newline)))
+skip_line skip = line (codes "skipped" ∷ decimal skip.0 ∷ why_word skip.1 ∷ [])
 
 abbrev pub skips_text : List (ℕ × Why) → List ℕ
-skips_text skips = flat_map skip_line skips ++ codes "end\n"
+skips_text skips = flat_map skip_line skips ++ line (codes "end" ∷ [])
 
 -- a host with what it was given and what it kept
 pub record HostJournal : Type 0 where

@@ -1,9 +1,9 @@
 ghost use Rattle.std.specs.Prelude.{Some};
 ghost use Rattle.report_text.specs.Entries.{entry_text};
 
-use crate::pieces::{Address, Aim, Hex, HexByte, Reply, Said};
+use crate::pieces::{Address, Aim, Hex, HexByte, Reply};
 use crate::words::{again_word, busy_word, by_word, disp_word, failed_word, ok_word, state_word};
-use mid_base::Entry;
+use mid_base::{Entry, ProbeSay};
 use std::fmt;
 
 /// An entry as it is printed: its word and then its parts, with a space between.
@@ -35,8 +35,11 @@ impl fmt::Display for EntryText {
             Entry::EhBegin => write!(f, "ehbegin"),
             Entry::EhEnd => write!(f, "ehend"),
             Entry::Act(level, at, ok) => write!(f, "act {level} {} {}", Aim(at), ok_word(ok)),
-            Entry::Probe(dev, code, said) => {
-                write!(f, "probe {} {} {}", Address(dev), HexByte(code), Said(said))
+            Entry::Probe(dev, code, ProbeSay::Answered(a)) => {
+                write!(f, "probe {} {} {}", Address(dev), HexByte(code), Reply(a))
+            }
+            Entry::Probe(dev, code, ProbeSay::Silent) => {
+                write!(f, "probe {} {} silent", Address(dev), HexByte(code))
             }
             Entry::Offline(dev) => write!(f, "offline {}", Address(dev)),
             Entry::State(dev, to) => write!(f, "state {} {}", Address(dev), state_word(to)),

@@ -3,21 +3,12 @@ ghost use Rattle.mid_base.specs.declared.entries.Entry.{Entry as EntrySeen};
 ghost use Rattle.std.specs.Ordering.{nat_cmp};
 ghost use Rattle.std.specs.BTreeMap.{get};
 ghost use Rattle.trace_model.specs.Commands.{is_own};
-ghost use Rattle.report_text.specs.Tables.{OwnersAre, ReportsAre, RowsAre, ended_at, is_named, next_row, row_at};
+ghost use Rattle.report_text.specs.Tables.{OwnersAre, ReportsAre, RowsAre, is_named, next_row, row_at};
 
-use crate::results::{Ended, Report};
+use crate::results::{LastOwn, Report, ended_by};
 use mid_base::{By, Entry, NoMemory};
 use std::alloc::Global;
 use std::collections::BTreeMap;
-
-// The kind of the last entry that names a command.
-#[derive(Clone, Copy, PartialEq, Eq, Debug)]
-pub enum LastOwn {
-    Judged,
-    Aborted,
-    Cleared,
-    Other,
-}
 
 // What the entries so far say of a command.
 #[derive(Clone, Copy, PartialEq, Eq, Debug)]
@@ -107,16 +98,6 @@ fn row_after(row: Row, e: &Entry) -> Row
     }
 }
 
-fn ended_at(last: LastOwn, owner: Option<By>) -> Ended
-    ensures { result ≡ ended_at last owner }
-{
-    match (last, owner) {
-        (LastOwn::Judged, _) | (LastOwn::Cleared, Some(By::Answer)) => Ended::Answered,
-        (LastOwn::Aborted | LastOwn::Cleared, _) => Ended::TimedOut,
-        (LastOwn::Other, _) => Ended::NotConnected,
-    }
-}
-
 fn row_in(rows: &BTreeMap<u32, Row>, c: u32) -> Row
     ensures { result ≡ row_at rows.now c }
 {
@@ -173,7 +154,7 @@ fn note_report(
         return Ok(());
     }
     let row = row_in(rows, c.0);
-    let ended = ended_at(row.last, owners.get(&row.attempt).copied());
+    let ended = ended_by(row.last, owners.get(&row.attempt).copied());
     let report = Report {
         ended,
         answer: *answer,

@@ -42,9 +42,11 @@ mod entries;
 mod gather;
 mod lines;
 mod pieces;
+mod readings;
 mod results;
 mod words;
 mod write;
 
 pub use lines::WriteEnd;
+pub use readings::a_line_has_one_reading;
 pub use write::{write_host, write_skips};

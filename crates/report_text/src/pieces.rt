@@ -1,8 +1,8 @@
-ghost use Rattle.std.specs.Prelude.{Some, ◌≡◌, ◌<◌};
+ghost use Rattle.std.specs.Prelude.{Some};
 ghost use Rattle.mid_base.specs.Bytes.{sense_list};
-ghost use Rattle.report_text.specs.Pieces.{address_text, answer_text, hex_byte, hex_digit, hex_text, said_text, scope_text, sense_text};
+ghost use Rattle.report_text.specs.Pieces.{address_text, answer_text, hex_byte, hex_text, scope_text, sense_text};
 
-use mid_base::{Answer, DevAddr, ProbeSay, Scope, SenseBytes};
+use mid_base::{Answer, DevAddr, Scope, SenseBytes};
 use std::fmt;
 
 /// An address as `C:T:L`.
@@ -22,17 +22,6 @@ impl fmt::Display for Address {
     }
 }
 
-fn hex_digit(d: u8) -> char
-    requires { d < 16 }
-    ensures { result ≡ hex_digit d }
-{
-    if d < 10 {
-        char::from(b'0' + d)
-    } else {
-        char::from(b'a' - 10 + d)
-    }
-}
-
 /// A byte as two lower-case hex digits.
 #[derive(Clone, Copy)]
 pub struct HexByte(pub u8);
@@ -41,7 +30,8 @@ impl fmt::Display for HexByte {
     ghost output = { λ t. Some (hex_byte t.0) };
 
     fn fmt<W: fmt::Write>(&self, f: &mut fmt::Formatter<W>) -> fmt::Result {
-        write!(f, "{}{}", hex_digit(self.0 / 16), hex_digit(self.0 % 16))
+        let byte = self.0;
+        write!(f, "{byte:02x}")
     }
 }
 
@@ -111,21 +101,6 @@ impl fmt::Display for Aim {
             Scope::Target(channel, target) => write!(f, "{channel}:{target}"),
             Scope::Bus(channel) => write!(f, "{channel}"),
             Scope::Host => write!(f, "-"),
-        }
-    }
-}
-
-/// What came of a command of recovery: its answer, or `silent`.
-#[derive(Clone, Copy)]
-pub struct Said(pub ProbeSay);
-
-impl fmt::Display for Said {
-    ghost output = { λ t. Some (said_text t.0) };
-
-    fn fmt<W: fmt::Write>(&self, f: &mut fmt::Formatter<W>) -> fmt::Result {
-        match self.0 {
-            ProbeSay::Answered(a) => write!(f, "{}", Reply(a)),
-            ProbeSay::Silent => write!(f, "silent"),
         }
     }
 }

@@ -1,8 +1,8 @@
 ghost use Rattle.std.specs.Prelude.{Some, ◌≡◌};
-ghost use Rattle.report_text.specs.Results.{ended_word, outcome_text};
+ghost use Rattle.report_text.specs.Results.{ended_by, ended_word, outcome_text};
 
 use crate::pieces::Reply;
-use mid_base::Answer;
+use mid_base::{Answer, By};
 use std::fmt;
 
 /// How a command ended, by what its report was made of: an answer that was judged, an attempt that its expired timer
@@ -19,6 +19,26 @@ pub enum Ended {
 pub struct Report {
     pub ended: Ended,
     pub answer: Answer,
+}
+
+/// The last entry that names a command, as far as the command's end asks for it.
+#[derive(Clone, Copy, PartialEq, Eq, Debug)]
+pub enum LastOwn {
+    Judged,
+    Aborted,
+    Cleared,
+    Other,
+}
+
+/// How a command ended, by the last entry that names it before its report and the owner of its last attempt.
+pub fn ended_by(last: LastOwn, owner: Option<By>) -> Ended
+    ensures { result ≡ ended_by last owner }
+{
+    match (last, owner) {
+        (LastOwn::Judged, _) | (LastOwn::Cleared, Some(By::Answer)) => Ended::Answered,
+        (LastOwn::Aborted | LastOwn::Cleared, _) => Ended::TimedOut,
+        (LastOwn::Other, _) => Ended::NotConnected,
+    }
 }
 
 pub fn ended_word(ended: Ended) -> &'static str

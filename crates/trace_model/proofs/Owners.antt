@@ -1,5 +1,5 @@
 -- An attempt has one owner at most.
-use Rattle.std.proofs.Common.{zero, suc, ◌≡◌, ℕ, ◌+◌, ◌<◌, ◌≤◌, ◌==◌, Bool, true, false, ◌&&◌, List, [], ◌∷◌, refl, sym, ◌∙◌, subst, arith, inl, inr, ⊎_elim, not}
+use Rattle.std.proofs.Common.{zero, suc, ◌≡◌, ℕ, ◌+◌, ◌<◌, ◌≤◌, ◌==◌, Bool, true, false, ◌&&◌, List, [], ◌∷◌, refl, sym, ◌∙◌, subst, arith, inl, inr, ⊎_elim, not, None}
 use Rattle.std.proofs.lemmas.Bool.Decides.{eqb_tells}
 use Rattle.std.proofs.lemmas.Bool.{eqb-true}
 use Rattle.mid_base.specs.declared.answers.By.{By}
@@ -7,7 +7,7 @@ use Rattle.mid_base.specs.declared.answers.By.TheVariants.{Answer as ByAnswer, E
 use Rattle.mid_base.specs.declared.entries.Entry.{Entry}
 use Rattle.mid_base.specs.declared.entries.Entry.TheVariants.{Sent, Bounced, Owned}
 use Rattle.mid_base.specs.declared.host_spec.HostSpec.{HostSpec}
-use Rattle.trace_model.specs.Attempts.{sends, is_open}
+use Rattle.trace_model.specs.Attempts.{sends, is_open, owner}
 use Rattle.trace_model.specs.Counts.{owners}
 use Rattle.trace_model.specs.Judging.{may_own}
 use Rattle.trace_model.specs.Names.{dev_of}
@@ -25,7 +25,7 @@ and_left : (a b : Bool) → a && b ≡ true → a ≡ true
 and_left true b h = refl
 and_left false b h = h
 
-owns_open : (n : ℕ) (by : By) (P : List Entry) → may_own n by P ≡ true → is_open n P ≡ true
+pub owns_open : (n : ℕ) (by : By) (P : List Entry) → may_own n by P ≡ true → is_open n P ≡ true
 owns_open n ByAnswer P h = and_left _ _ h
 owns_open n ByExpiry P h = and_left _ _ h
 
@@ -94,3 +94,12 @@ once s (e ∷ P) n each = same n P (e ∷ P) refl refl refl (once s P n each.1)
 
 pub one_owner : (s : HostSpec) (P : List Entry) (n : ℕ) → ByPlaces s P → owners n P ≤ 1
 one_owner s P n legal = (once s P n legal.each).one
+
+-- an attempt that is open has no owner
+unowned : (n : ℕ) (P : List Entry) → owners n P ≡ 0 → owner n P ≡ None
+unowned n [] h = refl
+unowned n (Owned m by ∷ P) h = ⊎_elim (λ yes. absurd (omega (arith, rw yes.0 at h))) (λ no. rw no.0 (unowned n P (rw no.0 at h))) (eqb_tells m.0 n)
+unowned n (e ∷ P) h = unowned n P h
+
+pub open_unowned : (s : HostSpec) (P : List Entry) (n : ℕ) → EachStands s P → is_open n P ≡ true → owner n P ≡ None
+open_unowned s P n each o = unowned n P ((once s P n each).open_known o).1

@@ -9,6 +9,7 @@ use Rattle.mid_base.specs.declared.entries.Entry.TheVariants.{Judged, Aborted, C
 use Rattle.trace_model.specs.Devices.{has_begun}
 use Rattle.trace_model.specs.Commands.{standing, is_busy, failed_since_sent}
 use Rattle.trace_model.specs.Recovery.{is_quiet}
+use Rattle.trace_model.specs.Permits.{IsWithin}
 use Rattle.trace_model.specs.Counts.{busy_count, failed_count, is_acting, QuietActs}
 use Rattle.trace_model.specs.Course.{Course, over, next, ask, fetch, Meets, after}
 use Rattle.trace_model.specs.Rules.{Allowed, course}
@@ -25,6 +26,9 @@ and_right false b h = cc h
 
 first_of : (a b c : Bool) → (a && b) && c ≡ true → a ≡ true
 first_of a b c h = and_left a b (and_left (a && b) c h)
+
+second_of : (a b c : Bool) → (a && b) && c ≡ true → b ≡ true
+second_of a b c h = and_right a b (and_left (a && b) c h)
 
 abbrev number : Bool → ℕ
 number b = cond b 1 0
@@ -54,19 +58,31 @@ calm_quiet s P (Probe d code say) m h = h
 calm_quiet s P (Offline d) m h = h
 calm_quiet s P e m h = cc m
 
--- recovery's course is owed in quiet
+calm_begun : (P : List Entry) (e : Entry) → is_calm e ≡ true → has_begun P ≡ true → has_begun (e ∷ P) ≡ true
+calm_begun P (Judged c n d) m h = h
+calm_begun P (Cleared c level) m h = h
+calm_begun P (Sensed c n x) m h = h
+calm_begun P (Probe d code say) m h = h
+calm_begun P (Offline d) m h = h
+calm_begun P e m h = cc m
+
+calm_within : (s : HostSpec) (P : List Entry) (e : Entry) → is_calm e ≡ true → IsWithin s P → IsWithin s (e ∷ P)
+calm_within s P e m h = record { quiet = calm_quiet s P e m h.quiet; begun = calm_begun P e m h.begun }
+
+-- recovery's course is owed within it
 abbrev Quiet : HostSpec → List Entry → Course → Type 0
-Quiet s P k = ((is_quiet s P ≡ true) × Owes Calm k) ⊎ Owes End k
+Quiet s P k = (IsWithin s P × Owes Calm k) ⊎ Owes End k
 
 opens_quiet : (s : HostSpec) (P : List Entry) (e : Entry) → Allowed s P e → Quiet s (e ∷ P) (course s P e)
 opens_quiet s P (Judged c n d) al = inr (judged_ends s P c n d)
 opens_quiet s P (Aborted c n ok) al = inr (aborted_ends s P c n ok)
-opens_quiet s P EhBegin al = inl (first_of (is_quiet s P) (not (has_begun P)) _ al, begin_calm s P)
-opens_quiet s P (Act level scope ok) al = inl (first_of (is_quiet s P) (has_begun P) _ al.0, climb_calm s P level scope ok)
+opens_quiet s P EhBegin al = inl (record { quiet = first_of (is_quiet s P) (not (has_begun P)) _ al; begun = refl }, begin_calm s P)
+opens_quiet s P (Act level scope ok) al =
+    inl (record { quiet = first_of (is_quiet s P) (has_begun P) _ al.0; begun = second_of (is_quiet s P) (has_begun P) _ al.0 }, climb_calm s P level scope ok)
 opens_quiet s P e al = inr tt
 
 meets_quiet : (s : HostSpec) (P : List Entry) (k : Course) (e : Entry) → Meets k e → Quiet s P k → Quiet s (e ∷ P) (after k e)
-meets_quiet s P k e m (inl h) = inl (calm_quiet s P e (meets_owes Calm k e h.1 m) h.0, after_owes Calm k e h.1)
+meets_quiet s P k e m (inl h) = inl (calm_within s P e (meets_owes Calm k e h.1 m) h.0, after_owes Calm k e h.1)
 meets_quiet s P k e m (inr h) = inr (after_owes End k e h)
 
 goes_quiet : (s : HostSpec) (P : List Entry) (k : Course) (e : Entry) → Stands k s P e → Quiet s P k → Quiet s (e ∷ P) (goes_on k s P e)
@@ -75,7 +91,7 @@ goes_quiet s P (next x k) e st h = meets_quiet s P (next x k) e st h
 goes_quiet s P (ask d code want k) e st h = meets_quiet s P (ask d code want k) e st h
 goes_quiet s P (fetch c n k) e st h = meets_quiet s P (fetch c n k) e st h
 
-owed_quiet : (s : HostSpec) (P : List Entry) → EachStands s P → Quiet s P (owed s P)
+pub owed_quiet : (s : HostSpec) (P : List Entry) → EachStands s P → Quiet s P (owed s P)
 owed_quiet s [] each = inr tt
 owed_quiet s (e ∷ P) each = goes_quiet s P (owed s P) e each.0 (owed_quiet s P each.1)
 
@@ -91,7 +107,7 @@ end_acts (Cleared c level) a m = cc m
 end_acts e a m = cc a
 
 meets_acts : (s : HostSpec) (P : List Entry) (k : Course) (e : Entry) → is_acting e ≡ true → Meets k e → Quiet s P k → is_quiet s P ≡ true
-meets_acts s P k e a m (inl h) = h.0
+meets_acts s P k e a m (inl h) = h.0.quiet
 meets_acts s P k e a m (inr h) = absurd (end_acts e a (meets_owes End k e h m))
 
 stands_acts : (s : HostSpec) (P : List Entry) (k : Course) (e : Entry) → is_acting e ≡ true → Stands k s P e → Quiet s P k → is_quiet s P ≡ true

@@ -13,7 +13,7 @@ pub mod Flush
 pub mod Rules
 pub mod Legal
 pub mod Drained
-pub mod Worked
 pub mod Counts
+pub mod Permits
 pub mod Steps
 pub mod Headline

@@ -1,10 +1,12 @@
-ghost use Rattle.std.specs.Prelude.{ℕ, ◌≤◌, List, reverse};
+ghost use Rattle.std.specs.Prelude.{ℕ, ◌≤◌, List, ◌++◌, reverse};
 ghost use Rattle.mid_base.specs.declared.entries.Entry.{Entry};
 ghost use Rattle.mid_base.specs.declared.host_spec.HostSpec.{HostSpec};
 ghost use Rattle.trace_model.specs.Counts.{owners, QuietActs};
 ghost use Rattle.trace_model.specs.Drained.{tellings, NoneAfterTold};
 ghost use Rattle.trace_model.specs.Headline.{Headline};
-ghost use Rattle.trace_model.specs.Legal.{Legal, LegalByPlaces};
+ghost use Rattle.trace_model.specs.Course.{IsOver, Meets};
+ghost use Rattle.trace_model.specs.Legal.{Legal, LegalByPlaces, EachStands, owed};
+ghost use Rattle.trace_model.specs.Permits.{Permits};
 
 /// A journal of groups, each an entry with those that follow it at once, is legal place by place.
 pub fn groups_are_places()
@@ -14,6 +16,16 @@ pub fn groups_are_places()
 /// A journal that is legal place by place is one of groups.
 pub fn places_are_groups()
     ensures { (s : HostSpec) (journal : List Entry) → LegalByPlaces s journal → Legal s journal }
+{}
+
+/// An entry that is owed is never one that another rule forbids: so it is all the same whether the rules are asked of it.
+pub fn owed_entries_are_permitted()
+    ensures { (s : HostSpec) (P : List Entry) (e : Entry) → EachStands s P → Meets (owed s P) e → Permits s P e }
+{}
+
+/// What a legal journal begins with is legal, where nothing is owed behind it.
+pub fn beginnings_are_legal()
+    ensures { (s : HostSpec) (front back : List Entry) → LegalByPlaces s (front ++ back) → IsOver (owed s (reverse front)) → LegalByPlaces s front }
 {}
 
 /// Completion and timeout never both own an attempt.

@@ -8,16 +8,11 @@
 mod booked;
 mod laws;
 mod standing;
-mod worked;
 
 pub use booked::Booked;
 pub use laws::{
-    acts_are_quiet, each_attempt_has_one_owner, each_command_is_told_once, groups_are_places,
-    legal_journals_keep_the_headline, nothing_follows_a_report, places_are_groups,
+    acts_are_quiet, beginnings_are_legal, each_attempt_has_one_owner, each_command_is_told_once,
+    groups_are_places, legal_journals_keep_the_headline, nothing_follows_a_report,
+    owed_entries_are_permitted, places_are_groups,
 };
 pub use standing::Standing;
-pub use worked::{
-    expiry_wins_is_legal, no_callbacks_is_legal, recovery_too_early_is_not_legal,
-    report_left_out_is_not_legal, skipped_levels_are_not_legal, tick_over_an_answer_is_not_legal,
-    two_owners_are_not_legal, two_recovered_is_legal,
-};

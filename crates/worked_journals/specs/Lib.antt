@@ -1,0 +1,9 @@
+pub mod Hosts
+pub mod Say
+pub mod Edits
+pub mod AnswerWins
+pub mod ExpiryWins
+pub mod TwoRecovered
+pub mod NoCallbacks
+pub mod FetchedSense
+pub mod StartUnit
