@@ -1,0 +1,6 @@
+pub mod Counted
+pub mod Held
+pub mod Units
+pub mod Ties
+pub mod Answering
+pub mod Tests

@@ -1,0 +1,2 @@
+pub mod LowerRun
+pub mod Stands
