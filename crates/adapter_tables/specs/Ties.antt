@@ -104,9 +104,6 @@ RowsAre f _ _ = ⊥
 abbrev pub no_counts : CallCounts
 no_counts = record { queue = 0; timer = 0; abort = 0; device = 0; target = 0; bus = 0; host = 0; probe = 0 }
 
-abbrev pub row_made : LunSpec → CountRow
-row_made l = record { dev = l.dev; counts = no_counts }
-
 -- ---- units
 
 abbrev pub UnitIs : List LunSpec → (DevAddr → LogicalUnit) → LunSpec → UnitRow → Type 0
