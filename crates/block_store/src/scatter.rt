@@ -1,6 +1,6 @@
 ghost use Rattle.std.specs.Prelude.{◌≡◌, ◌≤◌, length, sum};
 ghost use Rattle.std.specs.Iterator.{YieldsFirstMut, item_count};
-ghost use Rattle.block_store.specs.Parts.{cuts, buffer_left, lengths_left};
+ghost use Rattle.block_store.specs.Parts.{cuts, buffer_left, lengths_left, VisitsParts};
 
 use crate::PartIter;
 use std::mem;
@@ -30,5 +30,20 @@ impl<'a> Iterator for PartIter<'a> {
         self.rest = back;
         self.lens = others;
         Some(front)
+    }
+}
+
+/// Calls `visit` at each part that `parts` would hand out, in order. What a call leaves in its part stands at the part's
+/// place in the buffer, and the bytes behind the last part stay.
+pub fn for_each_part<F: FnMut(&mut [u8])>(buf: &mut [u8], lens: &[u32], mut visit: F)
+    requires inside { sum lens.now ≤ length buf.old }
+    requires callable { F.IsAlwaysCallable visit }
+    ensures { (last : F) × VisitsParts F.FnMut visit buf.old lens.now last buf.new }
+{
+    let mut at = 0;
+    for len in lens {
+        let to = at + *len as usize;
+        visit(&mut buf[at..to]);
+        at = to;
     }
 }

@@ -1,6 +1,6 @@
-ghost use Rattle.std.specs.Prelude.{◌≤◌, sum};
+ghost use Rattle.std.specs.Prelude.{◌≡◌, ◌≤◌, ◌++◌, sum, length, replicate, drop};
 
-use crate::{BlockStore, parts};
+use crate::{BlockStore, for_each_part, parts};
 
 // One more than the number of the last block of the greatest store.
 const MOST: u32 = 4_294_967_295;
@@ -88,14 +88,54 @@ fn filled(lens: &[u32]) -> [u8; 8]
     buffer
 }
 
+// The same, by calls at the parts.
+fn filled_by_calls(lens: &[u32]) -> [u8; 8]
+    requires { sum lens.now ≤ 8 }
+{
+    let mut buffer = [0; 8];
+    let mut number = 0u8;
+    for_each_part(&mut buffer, lens, |part| {
+        number = number.wrapping_add(1);
+        part.fill(number);
+    });
+    buffer
+}
+
+// What the buffer holds afterwards follows from what `for_each_part` ensures.
+fn fill_with_ones(buf: &mut [u8], lens: &[u32])
+    requires { sum lens.now ≤ length buf.old }
+    ensures { buf.new ≡ replicate (sum lens.now) 1 ++ drop (sum lens.now) buf.old }
+{
+    for_each_part(
+        buf,
+        lens,
+        |part: &mut [u8]|
+            ensures { part.new ≡ replicate (length part.old) 1 }
+        { part.fill(1) },
+    );
+}
+
+#[test]
+fn bytes_behind_the_parts_stay(rt: HostRuntime) {
+    let mut buffer = [7; 6];
+    fill_with_ones(&mut buffer, &[1, 0, 3]);
+    assert_eq!(rt; buffer, [1, 1, 1, 1, 7, 7]);
+}
+
+fn both_fill(lens: &[u32], bytes: [u8; 8]) -> bool
+    requires { sum lens.now ≤ 8 }
+{
+    filled(lens) == bytes && filled_by_calls(lens) == bytes
+}
+
 #[test]
 fn what_is_written_to_a_part_stands_at_its_place(rt: HostRuntime) {
-    assert_eq!(rt; filled(&[]), [0, 0, 0, 0, 0, 0, 0, 0]);
-    assert_eq!(rt; filled(&[0]), [0, 0, 0, 0, 0, 0, 0, 0]);
-    assert_eq!(rt; filled(&[8]), [1, 1, 1, 1, 1, 1, 1, 1]);
-    assert_eq!(rt; filled(&[3, 2]), [1, 1, 1, 2, 2, 0, 0, 0]);
-    assert_eq!(rt; filled(&[7, 1]), [1, 1, 1, 1, 1, 1, 1, 2]);
-    assert_eq!(rt; filled(&[8, 0, 0]), [1, 1, 1, 1, 1, 1, 1, 1]);
-    assert_eq!(rt; filled(&[0, 3, 0, 0, 5, 0]), [2, 2, 2, 5, 5, 5, 5, 5]);
-    assert_eq!(rt; filled(&[1, 1, 1, 1, 1, 1, 1, 1]), [1, 2, 3, 4, 5, 6, 7, 8]);
+    assert!(rt; both_fill(&[], [0, 0, 0, 0, 0, 0, 0, 0]));
+    assert!(rt; both_fill(&[0], [0, 0, 0, 0, 0, 0, 0, 0]));
+    assert!(rt; both_fill(&[8], [1, 1, 1, 1, 1, 1, 1, 1]));
+    assert!(rt; both_fill(&[3, 2], [1, 1, 1, 2, 2, 0, 0, 0]));
+    assert!(rt; both_fill(&[7, 1], [1, 1, 1, 1, 1, 1, 1, 2]));
+    assert!(rt; both_fill(&[8, 0, 0], [1, 1, 1, 1, 1, 1, 1, 1]));
+    assert!(rt; both_fill(&[0, 3, 0, 0, 5, 0], [2, 2, 2, 5, 5, 5, 5, 5]));
+    assert!(rt; both_fill(&[1, 1, 1, 1, 1, 1, 1, 1], [1, 2, 3, 4, 5, 6, 7, 8]));
 }
