@@ -1,3 +1,4 @@
 pub mod Attempts
 pub mod Desks
+pub mod Places
 pub mod Turned

@@ -7,10 +7,12 @@
 mod callers;
 mod changes;
 mod desk;
+mod places;
 #[cfg(test)]
 mod tests;
 mod workers;
 
 pub use callers::{answered, made_note, overdue, sent, sent_and_told, settled};
 pub use desk::{Desk, Note};
+pub use places::{Places, placed_note, two_turns};
 pub use workers::{claimed_all, filled, sent_all};

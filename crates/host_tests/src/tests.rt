@@ -51,18 +51,20 @@ fn table_of(alloc: Global, tags: u16) -> Result<(HostTable<Desk>, HostSeat<Desk>
     HostTable::new(alloc, desk, tags)
 }
 
-fn two_turns<R: Wait>(rt: &R, alloc: Global) -> Result<Desk, NoMemory> {
+// The places that two turns over a new table filled, and the desk after them.
+fn two_turns_and_close<R: Wait>(rt: &R, alloc: Global) -> Result<(Places, Places, Desk), NoMemory> {
     let (table, mut first) = table_of(alloc, 0)?;
-    let mut second = table.split(&mut first);
-    made_note(rt, &table, &mut first, Note::Begun)?;
-    made_note(rt, &table, &mut second, Note::Ended)?;
-    table.join(&mut first, second);
-    Ok(table.close(first))
+    let second = table.split(&mut first);
+    let (begun, ended) = two_turns(rt, &table, &mut first, second)?;
+    Ok((begun, ended, table.close(first)))
 }
 
+// `two_turns` says that the first seat has these places then, and has seen the journal up to the second one's end.
 #[test]
 fn two_turns_are_kept_in_order(rt: HostRuntime) -> Result<(), Fail> {
-    let desk = two_turns(&rt, rt.alloc())?;
+    let (begun, ended, desk) = two_turns_and_close(&rt, rt.alloc())?;
+    assert_eq!(rt; begun, Places { from: 0, to: 1 });
+    assert_eq!(rt; ended, Places { from: 1, to: 2 });
     assert!(rt; desk.entries() == [Entry::EhBegin, Entry::EhEnd].as_slice());
     Ok(())
 }
