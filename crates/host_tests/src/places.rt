@@ -1,7 +1,8 @@
 ghost use Rattle.std.specs.Prelude.{◌≡◌, ◌+◌, IfOk};
 ghost use Rattle.host_words.specs.Seats.{view, IsSeatOf, IsSameTable, IsAway};
-ghost use Rattle.host_tests.specs.Places.{Fills, BothFill};
-ghost use Rattle.host_tests.specs.Turned.{Turned, IsIdle};
+ghost use Rattle.host_tests.specs.Desks.{entry_of};
+ghost use Rattle.host_tests.specs.Places.{Fills, BothFill, TwoTurns};
+ghost use Rattle.host_tests.specs.Turned.{Turned, Added, IsIdle};
 
 use crate::{Desk, Note};
 use host_words::{HostSeat, HostTable};
@@ -26,6 +27,7 @@ pub fn placed_note<R: Wait>(
     requires { IsIdle table.now seat.old }
     ensures table { IsSameTable seat.old seat.new }
     ensures turn { Turned (view seat.old) (view seat.new) }
+    ensures added { IfOk result (λ _. Added (view seat.old) (entry_of note) (view seat.new)) }
     ensures fills { IfOk result (λ p. Fills (view seat.old) p (view seat.new)) }
 {
     let mut desk = table.enter(rt, seat);
@@ -50,6 +52,7 @@ pub fn two_turns<R: Wait>(
     requires { IsIdle table.now first.old × IsIdle table.now second }
     ensures seat { IfOk result (λ _. IsSeatOf table.now first.new × IsAway first.new) }
     ensures share { IfOk result (λ _. (view first.new).share ≡ (view first.old).share + (view second).share) }
+    ensures turns { IfOk result (λ p. TwoTurns (view first.old) (view second) p (view first.new)) }
     ensures fill { IfOk result (λ p. BothFill (view first.old) (view second) p (view first.new)) }
 {
     let mut second = second;
