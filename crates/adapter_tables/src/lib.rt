@@ -15,6 +15,7 @@ mod held;
 mod held_table;
 mod lun_numbers;
 mod new_rows;
+mod probes;
 mod resets;
 mod scopes;
 #[cfg(test)]
@@ -26,6 +27,8 @@ pub use counts::{CallCounts, CountRow, fault_at, next_number};
 pub use faults::{busy_answer, sent_attempt, timer_answer};
 pub use held::Held;
 pub use held_table::{first_due, hold, is_any_due, let_go, set_due};
+pub use new_rows::{count_rows, unit_rows};
+pub use probes::{probe_unit, probes_are_served};
 pub use resets::reset;
 pub use unit_row::UnitRow;
 pub use units::answer_held;

@@ -3,14 +3,15 @@ ghost use Rattle.std.specs.List.{list_all};
 ghost use Rattle.mid_base.specs.Limits.{is_lun};
 
 use crate::{
-    CountRow, Held, UnitRow, answer_held, busy_answer, fault_at, first_due, hold, is_any_due,
-    let_go, next_number, reset, sent_attempt, set_due, timer_answer,
+    CountRow, Held, UnitRow, answer_held, busy_answer, count_rows, fault_at, first_due, hold,
+    is_any_due, let_go, next_number, probe_unit, reset, sent_attempt, set_due, timer_answer,
+    unit_rows,
 };
 use fault_plan::Class;
 use host_template::{EhSay, Queued, TimerSay};
 use mid_base::{
     Answer, Attempt, CHECK_CONDITION, CdbBytes, DID_OK, DevAddr, DeviceState, Fault, GOOD,
-    HostByte, LunSpec, PlanEntry, Scope, SenseBytes,
+    HostByte, LunSpec, PlanEntry, ProbeSay, Scope, SenseBytes,
 };
 use slab::Slab;
 use std::alloc::Global;
@@ -196,11 +197,7 @@ fn an_attempt_is_due_from_another_tick_on(rt: HostRuntime) {
 }
 
 fn rows(alloc: Global) -> Option<Vec<CountRow>> {
-    let mut rows = Vec::new(alloc);
-    for dev in DEVICES {
-        rows.push(CountRow::new(dev)).ok()?;
-    }
-    Some(rows)
+    count_rows(alloc, &LUNS).ok()
 }
 
 #[test]
@@ -275,12 +272,7 @@ fn the_plan_says_when_an_attempt_is_due_and_by_which_fault(rt: HostRuntime) {
 }
 
 fn units(alloc: Global) -> Option<Vec<UnitRow>> {
-    let mut units = Vec::new(alloc);
-    units.push(UnitRow::new(alloc, &LUNS, &LUNS[0]).ok()?).ok()?;
-    units.push(UnitRow::new(alloc, &LUNS, &LUNS[1]).ok()?).ok()?;
-    units.push(UnitRow::new(alloc, &LUNS, &LUNS[2]).ok()?).ok()?;
-    units.push(UnitRow::new(alloc, &LUNS, &LUNS[3]).ok()?).ok()?;
-    Some(units)
+    unit_rows(alloc, &LUNS).ok()
 }
 
 #[test]
@@ -293,6 +285,34 @@ fn a_unit_has_the_numbers_of_its_target(rt: HostRuntime) {
     for (row, numbers) in units.iter().zip(wanted) {
         assert_eq!(rt; row.luns.as_slice(), numbers);
     }
+}
+
+// What comes of a REQUEST SENSE that recovery sends, and the first byte that came in.
+fn fetch(alloc: Global, units: &mut Vec<UnitRow>, dev: DevAddr) -> Option<(ProbeSay, u8)> {
+    let mut buffer = vec![in alloc; 0u8; 131_072].ok()?;
+    let mut into = [0u8; 2056];
+    let cdb = CdbBytes::from_slice(&REQUEST_SENSE);
+    let say = probe_unit(units, dev, &cdb, &mut buffer, &mut into);
+    Some((say, into[0]))
+}
+
+#[test]
+fn probes_reach_the_unit_of_their_device(rt: HostRuntime) {
+    let Some(mut units) = units(rt.alloc()) else {
+        assert!(rt; false, "memory");
+        return;
+    };
+    let answer = Answer {
+        host: DID_OK,
+        status: GOOD,
+        sense: SenseBytes::empty(),
+        moved: 18,
+        sum: 0x70 + 10,
+    };
+    let wanted = Some((ProbeSay::Answered(answer), 0x70));
+    assert_eq!(rt; fetch(rt.alloc(), &mut units, THIRD), wanted);
+    let silent = Some((ProbeSay::Silent, 0));
+    assert_eq!(rt; fetch(rt.alloc(), &mut units, NOWHERE), silent);
 }
 
 fn ask(alloc: Global, units: &mut Vec<UnitRow>, h: &Held) -> Option<Answer> {

@@ -18,7 +18,7 @@ use mid_base::{
 use sense_data::build_fixed;
 
 // The place of a device's unit.
-fn place(units: &[UnitRow], dev: DevAddr) -> Option<usize>
+pub(crate) fn place(units: &[UnitRow], dev: DevAddr) -> Option<usize>
     ensures { MatchOption result (has_unit units.now dev ≡ false) (λ i. (i < length units.now) × ((x : _) → slice_get units.now i ≡ Some x → same_dev_seen x.dev dev ≡ true) × (has_unit (take i units.now) dev ≡ false)) }
 {
     for (i, x) in units.iter().enumerate() {

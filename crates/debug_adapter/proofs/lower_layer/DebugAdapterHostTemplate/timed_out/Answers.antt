@@ -1,0 +1,11 @@
+use Rattle.debug_adapter.proofs.Calls.{call_timed}
+use Rattle.debug_adapter.proofs.HonestLaws.{honest_timed}
+use Rattle.debug_adapter.proofs.lower_layer.DebugAdapterHostTemplate.timed_out.Goals as goal
+
+pub returns-clause-stands : goal.returns-clause-stands
+returns-clause-stands c = call_timed c.args.self.now.plan.items c.args.self.now.held c.settle_time.new.held c.args.self.now.rows.items c.next_number-number.new.rows.items c.args.self.now.units.items
+    c.args.n c.args.dev c.args.now.0 c.next_number-number.result c.fault_at.result c.timer_answer-say.result
+    c.timer_answer-say.ensures c.next_number-number.ensures.rows c.settle_time.ensures c.next_number-number.ensures.number (rw c.deref.ensures.value at c.fault_at.ensures)
+
+pub returns-clause-honest : goal.returns-clause-honest
+returns-clause-honest c = λ _ _. honest_timed c.args.self.now.held c.settle_time.new.held c.args.n c.args.now.0 c.timer_answer-say.result c.settle_time.ensures
