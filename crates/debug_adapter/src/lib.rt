@@ -11,6 +11,12 @@ mod adapter;
 mod laws;
 mod lower_layer;
 mod new_adapter;
+#[cfg(test)]
+mod test_calls;
+#[cfg(test)]
+mod test_host;
+#[cfg(test)]
+mod tests;
 
 pub use adapter::DebugAdapter;
 pub use laws::{
