@@ -8,3 +8,4 @@ pub mod KnownLaws
 pub mod Numbers
 pub mod ProbeLaws
 pub mod NewLaws
+pub mod AddressLaws

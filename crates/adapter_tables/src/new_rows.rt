@@ -1,12 +1,14 @@
 ghost use Rattle.std.specs.Prelude.{◌≡◌, ◌≤◌, ◌++◌, ◌∷◌, [], length, map, true, IfOk, OnOk};
 ghost use Rattle.std.specs.List.{list_all};
-ghost use Rattle.mid_base.specs.Limits.{is_lun};
+ghost use Rattle.mid_base.specs.Limits.{differ_in_address, is_lun};
+ghost use Rattle.adapter_tables.specs.TablesOf.{rows_of, units_of};
 ghost use Rattle.debug_lun.specs.Units.{unit_of, unit_for};
 ghost use Rattle.adapter_tables.specs.Ties.{NewUnits, new_row};
 ghost use Rattle.adapter_tables.specs.Units.{target_luns};
 
+use crate::addresses::Addresses;
 use crate::lun_numbers::numbers_of;
-use crate::{CallCounts, CountRow, UnitRow};
+use crate::{CallCounts, CountRow, CountTable, UnitRow, UnitTable};
 use debug_lun::DebugLun;
 use mid_base::{LunSpec, NoMemory};
 use std::alloc::Global;
@@ -55,8 +57,8 @@ impl UnitRow {
     }
 }
 
-/// A row for each unit of a host, in their order, before any call was made. NoMemory where there is no memory for them.
-pub fn count_rows(alloc: Global, luns: &[LunSpec]) -> Result<Vec<CountRow>, NoMemory>
+// A row for each unit, in their order.
+fn count_rows(alloc: Global, luns: &[LunSpec]) -> Result<Vec<CountRow>, NoMemory>
     ensures { IfOk result (λ v. v.items ≡ map new_row luns.now) }
 {
     match luns.iter().map(|l| CountRow::new(l)).collect(alloc) {
@@ -74,8 +76,8 @@ fn put_unit(units: &mut Vec<UnitRow>, x: UnitRow) -> Result<(), NoMemory>
     }
 }
 
-/// The units of a host, at most 256 and each within its limits, in their order. NoMemory where there is no memory for them.
-pub fn unit_rows(alloc: Global, luns: &[LunSpec]) -> Result<Vec<UnitRow>, NoMemory>
+// The units, in their order.
+fn unit_rows(alloc: Global, luns: &[LunSpec]) -> Result<Vec<UnitRow>, NoMemory>
     requires few { length luns.now ≤ 256 }
     requires luns { list_all is_lun luns.now ≡ true }
     ensures { IfOk result (λ v. NewUnits luns.now luns.now v.items) }
@@ -85,4 +87,32 @@ pub fn unit_rows(alloc: Global, luns: &[LunSpec]) -> Result<Vec<UnitRow>, NoMemo
         put_unit(&mut units, UnitRow::new(alloc, luns, l)?)?;
     }
     Ok(units)
+}
+
+impl CountTable {
+    /// The counts of a host's devices, whose addresses differ, before any call was made. NoMemory where there is no memory for
+    /// them.
+    pub fn new(alloc: Global, luns: &[LunSpec]) -> Result<CountTable, NoMemory>
+        requires { differ_in_address luns.now ≡ true }
+        ensures { IfOk result (λ t. rows_of t ≡ map new_row luns.now) }
+    {
+        let rows = count_rows(alloc, luns)?;
+        let at = Addresses::new(alloc, luns)?;
+        Ok(CountTable { rows, at })
+    }
+}
+
+impl UnitTable {
+    /// The units of a host, at most 256, each within its limits and at an address of its own. NoMemory where there is no memory
+    /// for them.
+    pub fn new(alloc: Global, luns: &[LunSpec]) -> Result<UnitTable, NoMemory>
+        requires few { length luns.now ≤ 256 }
+        requires luns { list_all is_lun luns.now ≡ true }
+        requires differ { differ_in_address luns.now ≡ true }
+        ensures { IfOk result (λ t. NewUnits luns.now luns.now (units_of t)) }
+    {
+        let units = unit_rows(alloc, luns)?;
+        let at = Addresses::new(alloc, luns)?;
+        Ok(UnitTable { units, at })
+    }
 }

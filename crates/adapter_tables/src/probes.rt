@@ -9,9 +9,10 @@ ghost use Rattle.mid_base.specs.declared.answers.ProbeSay.TheVariants.{Answered}
 ghost use Rattle.adapter_tables.specs.Units.{data_out, probed, served_pair};
 ghost use Rattle.adapter_tables.specs.Answering.{Probes, FetchesSense};
 ghost use Rattle.adapter_tables.specs.Ties.{WasServed};
+ghost use Rattle.adapter_tables.specs.TablesOf.{units_of};
 
-use crate::UnitRow;
 use crate::units::place;
+use crate::{UnitRow, UnitTable};
 use mid_base::{Answer, CdbBytes, DevAddr, NoMemory, ProbeSay};
 
 /// What a unit makes of the commands of recovery and scanning: none gives more data than its allocation length (SPC-4, 4.2.5.6);
@@ -69,7 +70,7 @@ fn answer_probe(x: &mut UnitRow, cdb: &CdbBytes, buffer: &mut [u8], into: &mut [
 /// none. `buffer` has 131,072 bytes, and what it holds afterwards is of no use; the data-in stands in the front of `into`,
 /// which has 2,056 bytes at least.
 pub fn probe_unit(
-    units: &mut Vec<UnitRow>,
+    units: &mut UnitTable,
     dev: DevAddr,
     cdb: &CdbBytes,
     buffer: &mut Vec<u8>,
@@ -78,11 +79,11 @@ pub fn probe_unit(
     requires buffer { length buffer.old.items ≡ 131072 }
     requires room { 2056 ≤ length into.old }
     requires known { IsProbe cdb.now }
-    ensures says { Probes units.old.items units.new.items dev (code_of cdb.now) into.new result }
+    ensures says { Probes (units_of units.old) (units_of units.new) dev (code_of cdb.now) into.new result }
     ensures len { length buffer.new.items ≡ length buffer.old.items }
 {
     match place(units, dev) {
-        Some(i) => ProbeSay::Answered(answer_probe(&mut units[i], cdb, buffer, into)),
+        Some(i) => ProbeSay::Answered(answer_probe(&mut units.units[i], cdb, buffer, into)),
         None => ProbeSay::Silent,
     }
 }

@@ -1,6 +1,6 @@
 ghost use Rattle.std.specs.Prelude.{◌≡◌, length};
 
-use adapter_tables::{CountRow, Held, UnitRow};
+use adapter_tables::{CountTable, Held, UnitTable};
 use mid_base::PlanEntry;
 use slab::Slab;
 
@@ -10,8 +10,8 @@ use slab::Slab;
 pub struct DebugAdapter {
     pub(crate) plan: Vec<PlanEntry>,
     pub(crate) held: Slab<Held>,
-    pub(crate) rows: Vec<CountRow>,
-    pub(crate) units: Vec<UnitRow>,
+    pub(crate) rows: CountTable,
+    pub(crate) units: UnitTable,
     // The data of the command that is executed.
     pub(crate) buffer: Vec<u8>,
     pub(crate) ghost room: { length buffer.items ≡ 131072 },

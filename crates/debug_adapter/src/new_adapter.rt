@@ -3,7 +3,7 @@ ghost use Rattle.mid_base.specs.Limits.{KeepsLimits};
 ghost use Rattle.debug_adapter.specs.Adapter.{AdapterStands};
 
 use crate::DebugAdapter;
-use adapter_tables::{count_rows, unit_rows};
+use adapter_tables::{CountTable, UnitTable};
 use mid_base::{HostSpec, NoMemory, PlanEntry};
 use slab::Slab;
 use std::alloc::Global;
@@ -24,12 +24,13 @@ impl DebugAdapter {
         ensures { IfOk result (λ x. AdapterStands x spec.now [] []) }
     {
         let plan = plan_of(alloc, spec.plan.as_slice())?;
-        let rows = count_rows(alloc, spec.luns.as_slice())?;
-        let units = unit_rows(alloc, spec.luns.as_slice())?;
+        let rows = CountTable::new(alloc, spec.luns.as_slice())?;
+        let units = UnitTable::new(alloc, spec.luns.as_slice())?;
         let buffer = vec![in alloc; 0u8; 131_072].map_err(|_| NoMemory)?;
+        let held = Slab::new(alloc);
         Ok(DebugAdapter {
             plan,
-            held: Slab::new(alloc),
+            held,
             rows,
             units,
             buffer,
