@@ -6,3 +6,6 @@ pub mod UnitLaws
 pub mod Tables
 pub mod KnownLaws
 pub mod Numbers
+pub mod ProbeLaws
+pub mod NewLaws
+pub mod AddressLaws

@@ -22,9 +22,14 @@ use Rattle.adapter_tables.specs.declared.held.Held.{Held}
 use Rattle.adapter_tables.specs.declared.counts.CountRow.{CountRow}
 use Rattle.adapter_tables.specs.declared.unit_row.UnitRow.{UnitRow}
 use Rattle.adapter_tables.specs.Held.{due_tick}
-use Rattle.adapter_tables.specs.Units.{status_reply, outcome}
+use Rattle.adapter_tables.specs.Units.{status_reply, outcome, served_pair, probed, is_good_reply}
 use Rattle.mid_base.specs.Codes.{did_ok, good}
-use Rattle.debug_lun.specs.Units.{Reply}
+use Rattle.mid_base.specs.declared.answers.ProbeSay.{ProbeSay}
+use Rattle.mid_base.specs.declared.answers.ProbeSay.TheVariants.{Answered, Silent}
+use Rattle.host_template.specs.Probes.{taken}
+use Rattle.sense_data.specs.Grammar.{is_valid_sense}
+use Rattle.debug_lun.specs.Units.{Reply, reply_of, unit_of}
+use Rattle.debug_lun.specs.Serving.{Served}
 use Rattle.adapter_tables.specs.Ties.{IsKept, any_hit_in, counted_row, has_unit, ServedAt, WereReset}
 
 -- an attempt as the code holds it, where it counted the call of `queue` with this number
@@ -52,6 +57,18 @@ abbrev pub Answers : List UnitRow → List UnitRow → Held → Reply → Type 0
 Answers units units' h a =
     ((has_unit units h.dev ≡ false) × (units' ≡ units) × (a ≡ status_reply did_ok good []))
     ⊎ ((i : ℕ) × (x : UnitRow) × (y : UnitRow) × ServedAt units units' h.dev (λ luns u. outcome luns h u) a i x y)
+
+-- a probe that no fault hits: the unit of its device serves it, and the caller takes its data-in from the buffer; a device
+-- without a unit is silent
+abbrev pub Probes : List UnitRow → List UnitRow → DevAddr → ℕ → List ℕ → ProbeSay → Type 0
+Probes units units' d code buffer Silent = (has_unit units d ≡ false) × (units' ≡ units)
+Probes units units' d code buffer (Answered a) =
+    (i : ℕ) × (x : UnitRow) × (y : UnitRow) × ServedAt units units' d (λ luns u. served_pair (probed luns u code)) (reply_of a) i x y
+    × (taken code (Answered a) buffer ≡ (probed x.luns.items (unit_of x.lun) code).data_in)
+
+-- REQUEST SENSE is GOOD and gives valid sense data
+abbrev pub FetchesSense : Served → Type 0
+FetchesSense x = (is_good_reply (Some x.reply) ≡ true) × (is_valid_sense x.data_in ≡ true)
 
 -- what a reset does to the tables: it is counted, and where no fault hits, its attempts are let go and its units reset
 abbrev pub Resets : List PlanEntry → Slab Held → Slab Held → List CountRow → List CountRow → List UnitRow → List UnitRow → Scope → Class → EhSay → Type 0

@@ -4,3 +4,5 @@ pub mod Units
 pub mod Ties
 pub mod Answering
 pub mod Tests
+pub mod Addresses
+pub mod TablesOf

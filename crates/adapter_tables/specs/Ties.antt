@@ -13,7 +13,7 @@ use Rattle.mid_base.specs.Address.{same_dev, in_scope, has_dev}
 use Rattle.fault_plan.specs.declared.class.Class.{Class}
 use Rattle.fault_plan.specs.declared.class.Class.TheVariants.{Queue, Time, Answer, Timer, Abort, ResetDevice, ResetTarget, ResetBus, ResetHost, Probe as Probing}
 use Rattle.fault_plan.specs.Plan.{planned}
-use Rattle.debug_lun.specs.Units.{LogicalUnit, Reply, unit_of, after_reset}
+use Rattle.debug_lun.specs.Units.{LogicalUnit, Reply, unit_of, unit_for, after_reset}
 use Rattle.adapter_tables.specs.declared.held.Held.{Held}
 use Rattle.adapter_tables.specs.declared.counts.CallCounts.{CallCounts}
 use Rattle.adapter_tables.specs.declared.counts.CountRow.{CountRow}
@@ -104,6 +104,10 @@ RowsAre f _ _ = ⊥
 abbrev pub no_counts : CallCounts
 no_counts = record { queue = 0; timer = 0; abort = 0; device = 0; target = 0; bus = 0; host = 0; probe = 0 }
 
+-- a device on which no call was made yet
+abbrev pub new_row : LunSpec → CountRow
+new_row l = record { dev = l.dev; counts = no_counts }
+
 -- ---- units
 
 abbrev pub UnitIs : List LunSpec → (DevAddr → LogicalUnit) → LunSpec → UnitRow → Type 0
@@ -113,6 +117,12 @@ abbrev pub UnitsAre : List LunSpec → (DevAddr → LogicalUnit) → List LunSpe
 UnitsAre luns u [] [] = Unit {0}
 UnitsAre luns u (l ∷ ls) (x ∷ xs) = UnitIs luns u l x × UnitsAre luns u ls xs
 UnitsAre luns u _ _ = ⊥
+
+-- each unit is as its line of the spec describes it
+abbrev pub NewUnits : List LunSpec → List LunSpec → List UnitRow → Type 0
+NewUnits luns [] [] = Unit {0}
+NewUnits luns (l ∷ ls) (x ∷ xs) = UnitIs luns (λ d. unit_for l) l x × NewUnits luns ls xs
+NewUnits luns _ _ = ⊥
 
 abbrev pub has_unit : List UnitRow → DevAddr → Bool
 has_unit xs d = list_any (λ x. same_dev x.dev d) xs

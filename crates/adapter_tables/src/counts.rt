@@ -1,12 +1,11 @@
 ghost use Rattle.std.specs.Prelude.{◌≡◌, ◌&&◌, is_some, map};
 ghost use Rattle.mid_base.specs.Address.{in_scope};
-ghost use Rattle.mid_base.specs.declared.answers.Scope.TheVariants.{Dev};
 ghost use Rattle.fault_plan.specs.Plan.{planned};
-ghost use Rattle.adapter_tables.specs.Ties.{up, bump, count_in, counted_row, count_of, any_hit_in};
+ghost use Rattle.adapter_tables.specs.Ties.{up, bump, count_in, counted_row, any_hit_in};
 
 use crate::scopes::covers;
 use fault_plan::{Class, take};
-use mid_base::{DevAddr, Fault, PlanEntry, Scope, same_dev};
+use mid_base::{DevAddr, Fault, PlanEntry, Scope};
 
 /// How many calls of each class were made on a device. Calls of `queue` are one count for three classes.
 #[derive(Clone, Copy, PartialEq, Eq, Debug)]
@@ -37,7 +36,7 @@ fn next(count: u64) -> u64
     if count >= CAP { count } else { count + 1 }
 }
 
-fn bumped(class: Class, c: CallCounts) -> CallCounts
+pub(crate) fn bumped(class: Class, c: CallCounts) -> CallCounts
     ensures { result ≡ bump class c }
 {
     match class {
@@ -76,7 +75,7 @@ fn bumped(class: Class, c: CallCounts) -> CallCounts
     }
 }
 
-fn of_class(c: &CallCounts, class: Class) -> u64
+pub(crate) fn of_class(c: &CallCounts, class: Class) -> u64
     ensures { result ≡ count_in c.now class }
 {
     match class {
@@ -111,29 +110,6 @@ pub(crate) fn count(rows: &mut Vec<CountRow>, scope: Scope, class: Class)
     for r in rows.iter_mut() {
         *r = counted_in(*r, scope, class);
     }
-}
-
-// How many calls of the class the device has counted.
-fn counted(rows: &[CountRow], dev: DevAddr, class: Class) -> u64
-    ensures { result ≡ count_of rows.now dev class }
-{
-    for r in rows {
-        if same_dev(r.dev, dev) {
-            return of_class(&r.counts, class);
-        }
-    }
-    0
-}
-
-/// Counts a call of the class on a device, and tells its number: the first call has the number 1. Counts of other devices and
-/// classes stay, but that a call of `queue` is counted for its due tick and its answer too. A device without a row has the
-/// number 0.
-pub fn next_number(rows: &mut Vec<CountRow>, dev: DevAddr, class: Class) -> u64
-    ensures rows { rows.new.items ≡ map (counted_row (Dev dev) class) rows.old.items }
-    ensures number { result ≡ count_of (map (counted_row (Dev dev) class) rows.old.items) dev class }
-{
-    count(rows, Scope::Dev(dev), class);
-    counted(rows, dev, class)
 }
 
 /// The planned fault that the call with this number meets, if any.

@@ -1,9 +1,11 @@
 ghost use Rattle.adapter_tables.specs.Answering.{Resets};
+ghost use Rattle.adapter_tables.specs.TablesOf.{rows_of, units_of};
 
-use crate::counts::{count, is_any_hit};
+use crate::counts::is_any_hit;
 use crate::held_table::let_go_in;
-use crate::units::reset_units;
-use crate::{CountRow, Held, UnitRow};
+use crate::numbering::count_in_scope;
+use crate::units::reset_all;
+use crate::{CountTable, Held, UnitTable};
 use fault_plan::Class;
 use host_template::EhSay;
 use mid_base::{PlanEntry, Scope};
@@ -15,18 +17,18 @@ use slab::Slab;
 pub fn reset(
     plan: &[PlanEntry],
     held: &mut Slab<Held>,
-    rows: &mut Vec<CountRow>,
-    units: &mut Vec<UnitRow>,
+    rows: &mut CountTable,
+    units: &mut UnitTable,
     scope: Scope,
     class: Class,
 ) -> EhSay
-    ensures { Resets plan.now held.old held.new rows.old.items rows.new.items units.old.items units.new.items scope class result }
+    ensures { Resets plan.now held.old held.new (rows_of rows.old) (rows_of rows.new) (units_of units.old) (units_of units.new) scope class result }
 {
-    count(rows, scope, class);
-    if is_any_hit(plan, rows, scope, class) {
+    count_in_scope(rows, scope, class);
+    if is_any_hit(plan, &rows.rows, scope, class) {
         return EhSay::Failed;
     }
     let_go_in(held, scope);
-    reset_units(units, scope);
+    reset_all(units, scope);
     EhSay::Success
 }

@@ -3,14 +3,14 @@ ghost use Rattle.std.specs.List.{list_all};
 ghost use Rattle.mid_base.specs.Limits.{is_lun};
 
 use crate::{
-    CountRow, Held, UnitRow, answer_held, busy_answer, fault_at, first_due, hold, is_any_due,
-    let_go, next_number, reset, sent_attempt, set_due, timer_answer,
+    CountTable, Held, UnitTable, answer_held, busy_answer, fault_at, first_due, hold, is_any_due,
+    let_go, next_number, probe_unit, reset, sent_attempt, set_due, timer_answer,
 };
 use fault_plan::Class;
 use host_template::{EhSay, Queued, TimerSay};
 use mid_base::{
     Answer, Attempt, CHECK_CONDITION, CdbBytes, DID_OK, DevAddr, DeviceState, Fault, GOOD,
-    HostByte, LunSpec, PlanEntry, Scope, SenseBytes,
+    HostByte, LunSpec, PlanEntry, ProbeSay, Scope, SenseBytes,
 };
 use slab::Slab;
 use std::alloc::Global;
@@ -195,12 +195,8 @@ fn an_attempt_is_due_from_another_tick_on(rt: HostRuntime) {
     assert_eq!(rt; answered(&mut held, 9), [1, 2, 0, 0]);
 }
 
-fn rows(alloc: Global) -> Option<Vec<CountRow>> {
-    let mut rows = Vec::new(alloc);
-    for dev in DEVICES {
-        rows.push(CountRow::new(dev)).ok()?;
-    }
-    Some(rows)
+fn rows(alloc: Global) -> Option<CountTable> {
+    CountTable::new(alloc, &LUNS).ok()
 }
 
 #[test]
@@ -274,13 +270,8 @@ fn the_plan_says_when_an_attempt_is_due_and_by_which_fault(rt: HostRuntime) {
     }
 }
 
-fn units(alloc: Global) -> Option<Vec<UnitRow>> {
-    let mut units = Vec::new(alloc);
-    units.push(UnitRow::new(alloc, &LUNS, &LUNS[0]).ok()?).ok()?;
-    units.push(UnitRow::new(alloc, &LUNS, &LUNS[1]).ok()?).ok()?;
-    units.push(UnitRow::new(alloc, &LUNS, &LUNS[2]).ok()?).ok()?;
-    units.push(UnitRow::new(alloc, &LUNS, &LUNS[3]).ok()?).ok()?;
-    Some(units)
+fn units(alloc: Global) -> Option<UnitTable> {
+    UnitTable::new(alloc, &LUNS).ok()
 }
 
 #[test]
@@ -290,12 +281,40 @@ fn a_unit_has_the_numbers_of_its_target(rt: HostRuntime) {
         return;
     };
     let wanted: [&[u16]; 4] = [&[0, 1], &[0, 1], &[0], &[0]];
-    for (row, numbers) in units.iter().zip(wanted) {
+    for (row, numbers) in units.units.iter().zip(wanted) {
         assert_eq!(rt; row.luns.as_slice(), numbers);
     }
 }
 
-fn ask(alloc: Global, units: &mut Vec<UnitRow>, h: &Held) -> Option<Answer> {
+// What comes of a REQUEST SENSE that recovery sends, and the first byte that came in.
+fn fetch(alloc: Global, units: &mut UnitTable, dev: DevAddr) -> Option<(ProbeSay, u8)> {
+    let mut buffer = vec![in alloc; 0u8; 131_072].ok()?;
+    let mut into = [0u8; 2056];
+    let cdb = CdbBytes::from_slice(&REQUEST_SENSE);
+    let say = probe_unit(units, dev, &cdb, &mut buffer, &mut into);
+    Some((say, into[0]))
+}
+
+#[test]
+fn probes_reach_the_unit_of_their_device(rt: HostRuntime) {
+    let Some(mut units) = units(rt.alloc()) else {
+        assert!(rt; false, "memory");
+        return;
+    };
+    let answer = Answer {
+        host: DID_OK,
+        status: GOOD,
+        sense: SenseBytes::empty(),
+        moved: 18,
+        sum: 0x70 + 10,
+    };
+    let wanted = Some((ProbeSay::Answered(answer), 0x70));
+    assert_eq!(rt; fetch(rt.alloc(), &mut units, THIRD), wanted);
+    let silent = Some((ProbeSay::Silent, 0));
+    assert_eq!(rt; fetch(rt.alloc(), &mut units, NOWHERE), silent);
+}
+
+fn ask(alloc: Global, units: &mut UnitTable, h: &Held) -> Option<Answer> {
     let mut buffer = vec![in alloc; 0u8; 131_072].ok()?;
     answer_held(units, h, &mut buffer).ok()
 }
@@ -312,7 +331,7 @@ fn code_of(sense: &SenseBytes) -> [u8; 3] {
 // What an attempt comes to: host byte, status, sense, how much was moved, and the sum of the data that came in.
 type Outcome = (u8, u8, [u8; 3], u32, u32);
 
-fn outcome(alloc: Global, units: &mut Vec<UnitRow>, h: &Held) -> Option<Outcome> {
+fn outcome(alloc: Global, units: &mut UnitTable, h: &Held) -> Option<Outcome> {
     let a = ask(alloc, units, h)?;
     Some((a.host.0, a.status, code_of(&a.sense), a.moved, a.sum))
 }
@@ -401,8 +420,8 @@ fn a_device_without_a_unit_answers_good(rt: HostRuntime) {
 #[derive(Drop)]
 struct Bench {
     held: Slab<Held>,
-    rows: Vec<CountRow>,
-    units: Vec<UnitRow>,
+    rows: CountTable,
+    units: UnitTable,
 }
 
 fn made(alloc: Global) -> Option<Bench> {
@@ -420,7 +439,7 @@ fn made(alloc: Global) -> Option<Bench> {
 }
 
 // Which units tell that they were reset (SPC-4: 6/29/00, power on, reset, or bus device reset occurred).
-fn were_reset(alloc: Global, units: &mut Vec<UnitRow>) -> [bool; 4] {
+fn were_reset(alloc: Global, units: &mut UnitTable) -> [bool; 4] {
     let mut told = [false; 4];
     for (place, dev) in DEVICES.iter().enumerate() {
         let said = outcome(alloc, units, &attempt(9, *dev, Some(1)));

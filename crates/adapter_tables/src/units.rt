@@ -7,26 +7,22 @@ ghost use Rattle.debug_lun.specs.Commands.{sense};
 ghost use Rattle.debug_lun.specs.Serving.{serve, placed, refusal_reply};
 ghost use Rattle.adapter_tables.specs.Units.{data_out, outcome, status_reply, served_pair};
 ghost use Rattle.adapter_tables.specs.Answering.{Answers};
+ghost use Rattle.adapter_tables.specs.TablesOf.{units_of};
 ghost use Rattle.adapter_tables.specs.Ties.{has_unit, WasServed, WasKept, WereKept, WasReset, WereReset};
 
 use crate::scopes::covers;
-use crate::{Held, UnitRow};
+use crate::{Held, UnitRow, UnitTable};
 use mid_base::{
     Answer, CHECK_CONDITION, CdbBytes, DID_OK, DevAddr, Fault, GOOD, HostByte, NoMemory, Scope,
-    SenseBytes, same_dev,
+    SenseBytes,
 };
 use sense_data::build_fixed;
 
 // The place of a device's unit.
-fn place(units: &[UnitRow], dev: DevAddr) -> Option<usize>
-    ensures { MatchOption result (has_unit units.now dev ≡ false) (λ i. (i < length units.now) × ((x : _) → slice_get units.now i ≡ Some x → same_dev_seen x.dev dev ≡ true) × (has_unit (take i units.now) dev ≡ false)) }
+pub(crate) fn place(units: &UnitTable, dev: DevAddr) -> Option<usize>
+    ensures { MatchOption result (has_unit (units_of units.now) dev ≡ false) (λ i. (i < length (units_of units.now)) × ((x : _) → slice_get (units_of units.now) i ≡ Some x → same_dev_seen x.dev dev ≡ true) × (has_unit (take i (units_of units.now)) dev ≡ false)) }
 {
-    for (i, x) in units.iter().enumerate() {
-        if same_dev(x.dev, dev) {
-            return Some(i);
-        }
-    }
-    None
+    units.at.find(dev)
 }
 
 // An answer that moves nothing.
@@ -75,6 +71,7 @@ fn finish(x: &mut UnitRow, h: &Held, buffer: &mut Vec<u8>) -> Result<Answer, NoM
     requires { length buffer.old.items ≡ 131072 }
     ensures ok { IfOk result (λ a. WasServed x.old x.new (λ luns u. outcome luns h.now u) (reply_of a)) }
     ensures err { OnErr result (WasKept x.old x.new) }
+    ensures dev { x.new.dev ≡ x.old.dev }
     ensures len { length buffer.new.items ≡ length buffer.old.items }
 {
     match h.fault {
@@ -94,19 +91,19 @@ fn finish(x: &mut UnitRow, h: &Held, buffer: &mut Vec<u8>) -> Result<Answer, NoM
 /// an adapter comes to, the answer is GOOD and nothing changes. NoMemory where there is no memory for the blocks of a write;
 /// then no unit has changed.
 pub fn answer_held(
-    units: &mut Vec<UnitRow>,
+    units: &mut UnitTable,
     h: &Held,
     buffer: &mut Vec<u8>,
 ) -> Result<Answer, NoMemory>
     requires { length buffer.old.items ≡ 131072 }
-    ensures ok { IfOk result (λ a. Answers units.old.items units.new.items h.now (reply_of a)) }
-    ensures err { OnErr result (WereKept units.old.items units.new.items) }
+    ensures ok { IfOk result (λ a. Answers (units_of units.old) (units_of units.new) h.now (reply_of a)) }
+    ensures err { OnErr result (WereKept (units_of units.old) (units_of units.new)) }
     ensures len { length buffer.new.items ≡ length buffer.old.items }
 {
     let Some(i) = place(units, h.dev) else {
         return Ok(answer(DID_OK, GOOD, SenseBytes::empty()));
     };
-    match finish(&mut units[i], h, buffer) {
+    match finish(&mut units.units[i], h, buffer) {
         Ok(a) => Ok(a),
         Err(NoMemory) => Err(NoMemory),
     }
@@ -120,12 +117,24 @@ fn reset(x: &mut UnitRow, scope: Scope)
     }
 }
 
-// Resets the units in the scope.
-pub(crate) fn reset_units(units: &mut [UnitRow], scope: Scope)
+fn reset_units(units: &mut [UnitRow], scope: Scope)
     ensures { WereReset scope units.old units.new }
 {
     if let Some((first, others)) = units.split_first_mut() {
         reset(first, scope);
         reset_units(others, scope);
     }
+}
+
+fn reset_rows(units: &mut Vec<UnitRow>, scope: Scope)
+    ensures { WereReset scope units.old.items units.new.items }
+{
+    reset_units(units, scope);
+}
+
+// Resets the units in the scope.
+pub(crate) fn reset_all(table: &mut UnitTable, scope: Scope)
+    ensures { WereReset scope (units_of table.old) (units_of table.new) }
+{
+    reset_rows(&mut table.units, scope);
 }

@@ -1,5 +1,5 @@
 -- Timeouts, aborts and resets: the adapter stands where their entries leave the journal.
-use Rattle.std.proofs.Common.{◌≡◌, ℕ, ◌+◌, ◌==◌, ◌&&◌, ◌||◌, min, Bool, true, false, not, is_some, if◌then◌else◌, List, [], ◌∷◌, map, Option, None, Some, refl, sym, ap, ◌∙◌, subst}
+use Rattle.std.proofs.Common.{◌≡◌, ◌↔◌, ℕ, ◌+◌, ◌==◌, ◌&&◌, ◌||◌, min, Bool, true, false, not, is_some, if◌then◌else◌, List, [], ◌∷◌, map, Option, None, Some, refl, sym, ap, ◌∙◌, subst}
 use Rattle.std.specs.Prelude.{option_map, find}
 use Rattle.std.specs.List.{list_any}
 use Rattle.slab.specs.Slab.{Slab}
@@ -35,7 +35,7 @@ use Rattle.adapter_tables.specs.Counted.{counts, counted, hit, hit_at, any_hit, 
 use Rattle.adapter_tables.specs.Held.{held, without, is_attempt, due_from, lets_go, is_reset}
 use Rattle.adapter_tables.specs.Units.{unit}
 use Rattle.debug_adapter.specs.LowerRun.{act_ok}
-use Rattle.debug_adapter.specs.Stands.{Stands, TimedTable, AbortedTable, eh_by}
+use Rattle.debug_adapter.specs.Stands.{Stands, TimedTable}
 use Rattle.adapter_tables.specs.Ties.{cap, count_of, counted_row, any_hit_in, IsKept, HeldIs, RowsAre, Within, PlanSmall}
 use Rattle.adapter_tables.specs.Answering.{say_by, Resets}
 use Rattle.adapter_tables.proofs.HeldLaws.{held_without, held_same, held_changed}
@@ -86,7 +86,7 @@ module _ (plan : List PlanEntry) (t : Slab Held) (rows : List CountRow) (units :
       ∙ ap (λ (i : ℕ). min i cap) (one_more (counts s e P dev class) true (counted s b P dev class) (more dev class ∙ rw (own, itself dev) refl)))
       ∙ rw old.0 (planned_capped s.plan dev class (counted s b P dev class + 1) old.1.plan)
 
-at_last : (s : HostSpec) (P : List Entry) (c : CmdId) (k : CmdSpec) (n : ℕ) (dev : DevAddr) → FitsLast s P c k n dev → device_of s c.0 ≡ Some dev
+pub at_last : (s : HostSpec) (P : List Entry) (c : CmdId) (k : CmdSpec) (n : ℕ) (dev : DevAddr) → FitsLast s P c k n dev → device_of s c.0 ≡ Some dev
 at_last s P c k n dev fits = ap (option_map (λ (q : CmdSpec). q.dev)) fits.command ∙ ap (λ (d : DevAddr). Some d) fits.dev_is
 
 line_last : (s : HostSpec) (P : List Entry) (c : CmdId) (k : CmdSpec) (n : ℕ) (dev : DevAddr) → Within s → FitsLast s P c k n dev → has_dev s.luns dev ≡ true
@@ -141,6 +141,16 @@ call_timed plan t new rows rows' units n dev now number f q e r table k p s b P 
     by (Some g) u h tab = absurd (cc (planned_class plan dev Timer number g u))
 
 -- ---- aborts
+
+-- the table of held attempts after an abort
+abbrev AbortedTable : Attempt → EhSay → Slab Held → Slab Held → Type 0
+AbortedTable n Success t new = (g : Held) → IsKept new g ↔ (IsKept t g × (is_attempt n.0 g ≡ false))
+AbortedTable n Failed t new = new ≡ t
+
+-- what an abort says, given whether a fault hits
+abbrev eh_by : Bool → EhSay
+eh_by true = Failed
+eh_by false = Success
 
 abort_counts : (s : HostSpec) (P : List Entry) (c : CmdId) (n : Attempt) (ok : Bool) (dev d : DevAddr) (x : Class) → device_of s c.0 ≡ Some dev → has_level s.handlers 2 ≡ true
     → counts s (Aborted c n ok) P d x ≡ in_scope (Dev dev) d && touches Abort x

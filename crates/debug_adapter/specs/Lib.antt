@@ -1,2 +1,5 @@
 pub mod LowerRun
 pub mod Stands
+pub mod Adapter
+pub mod Means
+pub mod Laws

@@ -1,5 +1,5 @@
 -- When an adapter stands where a journal leaves it, and what its tables are after a call.
-use Rattle.std.specs.Prelude.{◌≡◌, ◌↔◌, ℕ, Bool, true, false, List}
+use Rattle.std.specs.Prelude.{◌≡◌, ◌↔◌, ℕ, List}
 use Rattle.slab.specs.Slab.{Slab}
 use Rattle.mid_base.specs.declared.names.Attempt.{Attempt}
 use Rattle.mid_base.specs.declared.host_spec.HostSpec.{HostSpec}
@@ -8,13 +8,11 @@ use Rattle.mid_base.specs.declared.entries.Entry.{Entry}
 use Rattle.host_template.specs.Standing.{Before}
 use Rattle.host_template.specs.declared.says.TimerSay.{TimerSay}
 use Rattle.host_template.specs.declared.says.TimerSay.TheVariants.{Done}
-use Rattle.host_template.specs.declared.says.EhSay.{EhSay}
-use Rattle.host_template.specs.declared.says.EhSay.TheVariants.{Success, Failed}
 use Rattle.adapter_tables.specs.declared.held.Held.{Held}
 use Rattle.adapter_tables.specs.declared.counts.CountRow.{CountRow}
 use Rattle.adapter_tables.specs.declared.unit_row.UnitRow.{UnitRow}
 use Rattle.adapter_tables.specs.Counted.{counted}
-use Rattle.adapter_tables.specs.Held.{held, is_attempt, due_from}
+use Rattle.adapter_tables.specs.Held.{held, due_from}
 use Rattle.adapter_tables.specs.Units.{unit}
 use Rattle.adapter_tables.specs.Ties.{IsKept, HeldIs, RowsAre, UnitsAre, Within}
 use Rattle.debug_adapter.specs.LowerRun.{LowerRun}
@@ -30,13 +28,3 @@ Stands plan t rows units s b P =
 abbrev pub TimedTable : Attempt → ℕ → TimerSay → Slab Held → Slab Held → Type 0
 TimedTable n now Done t new = (g : Held) → IsKept new g ↔ ((h : Held) × IsKept t h × (due_from n.0 now h ≡ g))
 TimedTable n now say t new = new ≡ t
-
--- and after an abort
-abbrev pub AbortedTable : Attempt → EhSay → Slab Held → Slab Held → Type 0
-AbortedTable n Success t new = (g : Held) → IsKept new g ↔ (IsKept t g × (is_attempt n.0 g ≡ false))
-AbortedTable n Failed t new = new ≡ t
-
--- what an abort says, given whether a fault hits
-abbrev pub eh_by : Bool → EhSay
-eh_by true = Failed
-eh_by false = Success

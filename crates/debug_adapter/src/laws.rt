@@ -11,6 +11,8 @@ ghost use Rattle.mid_base.specs.declared.host_spec.HostSpec.{HostSpec};
 ghost use Rattle.mid_base.specs.declared.names.Tag.{Tag};
 ghost use Rattle.host_template.specs.Standing.{Before};
 ghost use Rattle.debug_adapter.specs.LowerRun.{LowerRun};
+ghost use Rattle.debug_adapter.specs.Adapter.{AdapterStands};
+ghost use Rattle.debug_adapter.specs.declared.adapter.DebugAdapter.{DebugAdapter};
 
 /// After entries of the adapter at most one answer may come next.
 pub fn the_next_answer_is_one()
@@ -31,4 +33,9 @@ pub fn the_plan_says_who_is_busy()
 pub fn a_probe_has_one_answer()
     ensures { (s : HostSpec) (b : Before) (P : List Entry) (d : DevAddr) (code : ℕ) (say other : ProbeSay)
         → LowerRun s b (Probe d code say ∷ P) → LowerRun s b (Probe d code other ∷ P) → say ≡ other }
+{}
+
+/// Where an adapter stands, the lower layer's part of the journal is that of an adapter.
+pub fn standing_adapters_ran()
+    ensures { (x : DebugAdapter) (s : HostSpec) (b : Before) (P : List Entry) → AdapterStands x s b P → LowerRun s b P }
 {}

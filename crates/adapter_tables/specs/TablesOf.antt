@@ -1,0 +1,14 @@
+-- What contracts see of the tables that are looked up by address.
+use Rattle.std.specs.Prelude.{List}
+use Rattle.adapter_tables.specs.declared.counts.CountRow.{CountRow}
+use Rattle.adapter_tables.specs.declared.unit_row.UnitRow.{UnitRow}
+use Rattle.adapter_tables.specs.declared.count_table.CountTable.{CountTable}
+use Rattle.adapter_tables.specs.declared.unit_table.UnitTable.{UnitTable}
+
+-- the rows of all devices, in the order of the spec
+abbrev pub rows_of : CountTable → List CountRow
+rows_of t = t.rows.items
+
+-- the units, in that order
+abbrev pub units_of : UnitTable → List UnitRow
+units_of t = t.units.items
