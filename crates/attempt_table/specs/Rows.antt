@@ -24,26 +24,26 @@ phase_of n rows = option_map (λ r. r.phase) (row_of n rows)
 abbrev pub next_attempt : List Row → Attempt
 next_attempt rows = record { 0 = length rows + 1 }
 
-abbrev pub is_open : Phase → Bool
-is_open Open = true
-is_open (Answered a) = true
-is_open x = false
+abbrev pub open_at : Phase → Bool
+open_at Open = true
+open_at (Answered a) = true
+open_at x = false
 
-abbrev pub is_wanting : Phase → Bool
-is_wanting Open = true
-is_wanting x = false
+abbrev pub wanting_at : Phase → Bool
+wanting_at Open = true
+wanting_at x = false
 
-abbrev pub is_claimed : Phase → Bool
-is_claimed (Answered a) = true
-is_claimed x = false
+abbrev pub claimed_at : Phase → Bool
+claimed_at (Answered a) = true
+claimed_at x = false
 
-abbrev pub is_owned : Phase → Bool
-is_owned (Owned a) = true
-is_owned x = false
+abbrev pub owned_at : Phase → Bool
+owned_at (Owned a) = true
+owned_at x = false
 
-abbrev pub is_settled : Phase → Bool
-is_settled (Settled a) = true
-is_settled x = false
+abbrev pub settled_at : Phase → Bool
+settled_at (Settled a) = true
+settled_at x = false
 
 abbrev pub owner_at : Phase → Option By
 owner_at (Owned a) = Some ByAnswer
@@ -62,21 +62,21 @@ in_row test None = false
 in_row test (Some r) = test r.phase
 
 abbrev pub open_in : Option Row → Bool
-open_in x = in_row is_open x
+open_in x = in_row open_at x
 
 -- an answer of the attempt would be its good one
 abbrev pub wanting_in : Option Row → Bool
-wanting_in x = in_row is_wanting x
+wanting_in x = in_row wanting_at x
 
 abbrev pub claimed_in : Option Row → Bool
-claimed_in x = in_row is_claimed x
+claimed_in x = in_row claimed_at x
 
 abbrev pub settled_in : Option Row → Bool
-settled_in x = in_row is_settled x
+settled_in x = in_row settled_at x
 
 -- the attempt is under way: it holds its tag
 abbrev pub live_in : Option Row → Bool
-live_in x = open_in x || in_row is_owned x
+live_in x = open_in x || in_row owned_at x
 
 abbrev pub owner_in : Option Row → Option By
 owner_in None = None

@@ -1,5 +1,5 @@
-ghost use Rattle.std.specs.Prelude.{◌≡◌, ◌≢◌, ◌++◌, ◌<◌, ◌≤◌, ◌+◌, [], ℕ, true, false, List, ◌∷◌, ◌&&◌, ◌||◌, Some, IsSome, IfOk, OnOk, MatchOption, All, Contains, length, slice_get, slice_set, nat_lt, vec_len, vec_capacity, is_some};
-ghost use Rattle.std.specs.List.{list_any};
+ghost use Rattle.std.specs.Prelude.{◌≡◌, ◌≢◌, ◌++◌, ◌<◌, ◌≤◌, ◌+◌, [], ℕ, true, false, List, ◌∷◌, ◌&&◌, ◌||◌, Some, IsSome, IfOk, OnOk, MatchOption, All, Contains, length, slice_get, slice_set, nat_lt, vec_len, vec_capacity, is_some, unwrap_or};
+ghost use Rattle.std.specs.List.{list_any, position};
 ghost use Rattle.mid_base.specs.declared.answers.By.TheVariants.{Answer as ByAnswer};
 ghost use Rattle.mid_base.specs.declared.answers.BusyOf.{BusyOf as BusyOfSeen};
 ghost use Rattle.mid_base.specs.declared.answers.Disp.{Disp as DispSeen};
@@ -49,13 +49,21 @@ fn show(tags: &mut Vec<TagState>, tag: Tag, state: TagState)
     }
 }
 
+// How many claims stand before the first one of a later attempt.
+fn place_of(claims: &[(Tag, Attempt, By)], n: Attempt) -> usize
+    ensures { result ≡ unwrap_or (position (λ x. nat_lt n.0 x.1.0) claims.now) (length claims.now) }
+{
+    let later = claims.iter().position(|claim| n.0 < claim.1.0);
+    later.unwrap_or(claims.len())
+}
+
 // One claim more, at its place, for which there is room.
 fn claim(claims: &mut Vec<(Tag, Attempt, By)>, tag: Tag, n: Attempt)
     requires { vec_len claims.old < vec_capacity claims.old }
     ensures { claims.new.items ≡ claims_with (tag, n, ByAnswer) claims.old.items }
 {
-    let before = claims.iter().take_while(|claim| claim.1.0 <= n.0).count();
-    let _ = claims.insert(before, (tag, n, By::Answer));
+    let place = place_of(claims, n);
+    let _ = claims.insert(place, (tag, n, By::Answer));
 }
 
 // The attempt waits no longer.

@@ -1,0 +1,7 @@
+use Rattle.attempt_table.proofs.Shown.{held_has_attempt}
+use Rattle.attempt_table.proofs.laws.a_held_tag_has_its_attempt.Goals as goal
+
+pub returns : goal.returns
+returns c = λ s P tells.
+    let t = c.args.attempts.now in
+    held_has_attempt s P t.rows.items t.tags.items t.claims.items t.lates.items tells

@@ -1,0 +1,7 @@
+use Rattle.attempt_table.proofs.Shown.{live_is_shown}
+use Rattle.attempt_table.proofs.laws.an_attempt_under_way_holds_its_tag.Goals as goal
+
+pub returns : goal.returns
+returns c = λ s P tells.
+    let t = c.args.attempts.now in
+    live_is_shown s P t.rows.items t.tags.items t.claims.items t.lates.items tells
