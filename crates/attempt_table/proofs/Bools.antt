@@ -28,3 +28,7 @@ strays false o t c h k = k
 strays true true true c h k = k
 strays true true false c h k = h refl ∙ k
 strays true false t c h k = k
+
+pub unwanted_by : (b w : Bool) → (b ≡ true → w ≡ false) → b && w ≡ false
+unwanted_by true w h = h refl
+unwanted_by false w h = refl

@@ -3,6 +3,8 @@ use Rattle.std.proofs.Common.{◌≡◌, ◌≢◌, ℕ, ◌+◌, ◌<◌, ◌�
 use Rattle.std.specs.Prelude.{slice_set}
 use Rattle.std.proofs.lemmas.Bool.{cases_Bool, cases_eq}
 use Rattle.mid_base.specs.declared.names.Tag.{Tag}
+use Rattle.mid_base.specs.declared.names.Attempt.{Attempt}
+use Rattle.mid_base.specs.declared.answers.By.TheVariants.{Answer as ByAnswer}
 use Rattle.mid_base.specs.declared.answers.TagState.{TagState}
 use Rattle.mid_base.specs.declared.answers.TagState.TheVariants.{Free as TagFree}
 use Rattle.mid_base.specs.declared.entries.Entry.{Entry}
@@ -11,10 +13,10 @@ use Rattle.trace_model.specs.Attempts.{attempts, sends, late, is_due}
 use Rattle.trace_model.specs.Steps.{sent_with, tag_state, tags_from, tag_states, tag_for, claims_of, waiting_claims}
 use Rattle.attempt_table.specs.declared.rows.Phase.{Phase}
 use Rattle.attempt_table.specs.declared.rows.Row.{Row}
-use Rattle.attempt_table.specs.Rows.{row_of, live_in, tag_in, with_phase, Moves}
+use Rattle.attempt_table.specs.Rows.{row_of, claimed_at, live_in, tag_in, with_phase, Moves}
 use Rattle.attempt_table.specs.Claims.{Claim, claims_with, claims_without}
 use Rattle.attempt_table.specs.Tells.{countdown, times, Reads, IsTimeless, Says}
-use Rattle.attempt_table.proofs.Places.{moved_here, moved_other, moved_length, tags_same, tags_set}
+use Rattle.attempt_table.proofs.Places.{row_within, moved_here, moved_other, moved_length, tags_same, tags_set}
 use Rattle.attempt_table.proofs.Shown.{state_in, claims_in, state_is, claims_are, not_none, tag_is}
 use Rattle.attempt_table.proofs.Claimed.{among, among_are, among_same, among_with, among_without, own_claims}
 
@@ -102,6 +104,66 @@ module _ (s : HostSpec) (P : List Entry) (table : List Row) (shown : List TagSta
           in
           ap (λ (xs : List TagState). slice_set xs u y) run.tags
           ∙ sym (tags_set 0 s.can_queue u u P P' y (omega arith) others here)
+
+      pub tags_unmoved : ((u : ℕ) → sent_with u P' ≡ sent_with u P) → state_in n (Some (with_phase x h.row)) ≡ state_in n (Some h.row) → shown ≡ tag_states s P'
+      tags_unmoved last state = tags_kept last (λ k. elim (cases_eq k n) [
+        | inl e ↦
+            subst (λ (j : ℕ). state_in j (row_of j table') ≡ state_in j (row_of j table)) (sym e)
+            (ap (state_in n) (moved_here n x table table' h) ∙ (state ∙ sym (ap (state_in n) h.was)))
+        | inr ne ↦ ap (state_in k) (moved_other n x table table' h k ne)
+      ])
+
+      -- the claims, where it didn't wait and doesn't, where it waits from now on, and where it waits no longer
+      unmoved : (k : ℕ) → k ≢ n → claims_in k (row_of k table') ≡ claims_in k (row_of k table)
+      unmoved k ne = ap (claims_in k) (moved_other n x table table' h k ne)
+
+      claims_before : claims_in n (row_of n table) ≡ claims_in n (Some h.row)
+      claims_before = ap (claims_in n) h.was
+
+      claims_after : claims_in n (row_of n table') ≡ claims_in n (Some (with_phase x h.row))
+      claims_after = ap (claims_in n) (moved_here n x table table' h)
+
+      pub claims_unmoved : ((k : ℕ) → is_due k P' ≡ false) → attempts P' ≡ attempts P → claimed_at h.row.phase ≡ false → claimed_at x ≡ false → waiting ≡ waiting_claims P'
+      claims_unmoved undue numbers was is =
+          let before : claims_in n (Some h.row) ≡ [] = rw was refl in
+          let after : claims_in n (Some (with_phase x h.row)) ≡ [] = rw is refl in
+          claims_kept undue numbers (λ k. elim (cases_eq k n) [
+            | inl e ↦
+                subst (λ (j : ℕ). claims_in j (row_of j table') ≡ claims_in j (row_of j table)) (sym e)
+                (claims_after ∙ (after ∙ sym (claims_before ∙ before)))
+            | inr ne ↦ unmoved k ne
+          ])
+
+      waiting_is : waiting ≡ among (λ k. claims_in k (row_of k table)) (countdown (length table))
+      waiting_is =
+          run.claims
+          ∙ (among_are P (λ k. claims_in k (row_of k table)) (attempts P) (λ k. claims_are s P k (row_of k table) (run.rows k) (run.timeless k).0)
+          ∙ ap (among (λ k. claims_in k (row_of k table))) run.numbers)
+
+      waiting_now : ((k : ℕ) → is_due k P' ≡ false) → attempts P' ≡ attempts P → waiting_claims P' ≡ among (λ k. claims_in k (row_of k table')) (countdown (length table))
+      waiting_now undue numbers =
+          among_are P' (λ k. claims_in k (row_of k table')) (attempts P') (λ k. claims_are s P' k (row_of k table') (rows' k) (undue k))
+          ∙ ap (among (λ k. claims_in k (row_of k table'))) (numbers ∙ run.numbers)
+
+      pub claims_put : ((k : ℕ) → is_due k P' ≡ false) → attempts P' ≡ attempts P → claimed_at h.row.phase ≡ false → claimed_at x ≡ true
+          → claims_with (h.row.tag, record { 0 = n }, ByAnswer) waiting ≡ waiting_claims P'
+      claims_put undue numbers was is =
+          let one : Claim = (h.row.tag, record { 0 = n }, ByAnswer) in
+          let within = row_within table n h.row h.was in
+          let before : claims_in n (Some h.row) ≡ [] = rw was refl in
+          let after : claims_in n (Some (with_phase x h.row)) ≡ one ∷ [] = rw is refl in
+          let all = among_with (λ k. claims_in k (row_of k table)) (λ k. claims_in k (row_of k table')) one n (length table) within.0 within.1
+          (λ k. own_claims k (row_of k table)) (claims_before ∙ before) (claims_after ∙ after) refl unmoved
+          in
+          ap (claims_with one) waiting_is ∙ (sym all ∙ sym (waiting_now undue numbers))
+
+      pub claims_cut : ((k : ℕ) → is_due k P' ≡ false) → attempts P' ≡ attempts P → claimed_at x ≡ false → claims_without n waiting ≡ waiting_claims P'
+      claims_cut undue numbers is =
+          let after : claims_in n (Some (with_phase x h.row)) ≡ [] = rw is refl in
+          let all = among_without (λ k. claims_in k (row_of k table)) (λ k. claims_in k (row_of k table')) n (countdown (length table))
+          (λ k. own_claims k (row_of k table)) (claims_after ∙ after) unmoved
+          in
+          ap (claims_without n) waiting_is ∙ (sym all ∙ sym (waiting_now undue numbers))
 
       moved_tag : (k : ℕ) → tag_in (row_of k table') ≡ tag_in (row_of k table)
       moved_tag k = elim (cases_eq k n) [

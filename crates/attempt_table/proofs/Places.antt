@@ -1,13 +1,14 @@
 -- Rows and tags at their places, after a change at one place or one row more.
-use Rattle.std.proofs.Common.{◌≡◌, ◌≢◌, ℕ, zero, suc, ◌+◌, ◌-◌, ◌<◌, ◌≤◌, List, [], ◌∷◌, ◌++◌, Option, Some, None, length, refl, sym, ap, ◌∙◌, subst, arith, add-one}
-use Rattle.std.specs.Prelude.{slice_get, slice_set}
+use Rattle.std.proofs.Common.{◌≡◌, ◌≢◌, ℕ, zero, suc, ◌+◌, ◌-◌, ◌<◌, ◌≤◌, true, List, [], ◌∷◌, ◌++◌, Option, Some, None, length, refl, sym, ap, ◌∙◌, subst, arith, add-one}
+use Rattle.std.specs.Prelude.{slice_get, slice_set, option_map}
 use Rattle.std.proofs.Math.ListN.{length-set}
 use Rattle.mid_base.specs.declared.answers.TagState.{TagState}
 use Rattle.mid_base.specs.declared.entries.Entry.{Entry}
 use Rattle.trace_model.specs.Steps.{tag_state, tags_from}
 use Rattle.attempt_table.specs.declared.rows.Phase.{Phase}
+use Rattle.attempt_table.specs.declared.rows.Phase.TheVariants.{Open, Answered, Owned, Settled, Bounced}
 use Rattle.attempt_table.specs.declared.rows.Row.{Row}
-use Rattle.attempt_table.specs.Rows.{row_of, with_phase, Moves}
+use Rattle.attempt_table.specs.Rows.{row_of, phase_of, wanting_at, wanting_in, with_phase, Moves}
 
 get_past : {A : Type 0} (xs : List A) (k : ℕ) → length xs ≤ k → slice_get xs k ≡ None
 get_past [] k le = refl
@@ -38,6 +39,15 @@ get_set_other (z ∷ zs) zero (suc j) x ne = refl
 get_set_other (z ∷ zs) (suc k) zero x ne = refl
 get_set_other (z ∷ zs) (suc k) (suc j) x ne = get_set_other zs k j x (λ e. ne (ap suc e))
 
+get_within : {A : Type 0} (xs : List A) (k : ℕ) (y : A) → slice_get xs k ≡ Some y → k < length xs
+get_within [] k y there = cc
+get_within (x ∷ xs) zero y there = omega arith
+get_within (x ∷ xs) (suc k) y there = let rest : k < length xs = get_within xs k y there in omega (arith, rest)
+
+pub row_within : (rows : List Row) (n : ℕ) (r : Row) → row_of n rows ≡ Some r → (0 < n) × (n ≤ length rows)
+row_within rows zero r there = cc
+row_within rows (suc k) r there = let inside : k < length rows = get_within rows k r there in (omega arith, omega (arith, inside))
+
 -- one row more
 pub row_new : (rows : List Row) (n : ℕ) → n ≡ length rows + 1 → row_of n rows ≡ None
 row_new rows zero e = refl
@@ -52,6 +62,21 @@ row_front rows row zero ne = refl
 row_front rows row (suc k) ne = get_front rows row k (λ e. ne (omega (arith, e)))
 
 -- a row in another phase
+pub phase_row : (n : ℕ) (x y : Phase) (old new : List Row) (h : Moves n x old new) → phase_of n old ≡ Some y → h.row.phase ≡ y
+phase_row n x y old new h is =
+    let was : ◌≡◌ {A = Option Phase} (Some h.row.phase) (Some y) = sym (ap (option_map (λ (r : Row). r.phase)) h.was) ∙ is in
+    cc
+
+pub wanting_row : (n : ℕ) (x : Phase) (old new : List Row) (h : Moves n x old new) → wanting_in (row_of n old) ≡ true → h.row.phase ≡ Open
+wanting_row n x old new h wanting = by_phase h.row.phase (sym (ap wanting_in h.was) ∙ wanting)
+  where
+    by_phase : (y : Phase) → wanting_at y ≡ true → y ≡ Open
+    by_phase Open is = refl
+    by_phase (Answered a) is = cc
+    by_phase (Owned a) is = cc
+    by_phase (Settled a) is = cc
+    by_phase Bounced is = cc
+
 pub moved_here : (n : ℕ) (x : Phase) (old new : List Row) (h : Moves n x old new) → row_of n new ≡ Some (with_phase x h.row)
 moved_here zero x old new h = let there : ◌≡◌ {A = Option Row} None (Some h.row) = h.was in cc
 moved_here (suc k) x old new h =
