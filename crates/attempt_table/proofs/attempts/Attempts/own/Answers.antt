@@ -1,8 +1,9 @@
-use Rattle.std.proofs.Common.{◌≡◌, Option, Some, ap, sym, ◌∙◌}
+use Rattle.std.proofs.Common.{rules, ◌≡◌, Option, Some, refl, ap, sym, ◌∙◌}
 use Rattle.mid_base.specs.declared.names.Tag.{Tag}
 use Rattle.attempt_table.specs.declared.rows.Phase.TheVariants.{Answered, Owned}
 use Rattle.attempt_table.specs.declared.rows.Row.{Row}
 use Rattle.attempt_table.specs.Rows.{row_of, tag_in}
+use Rattle.attempt_table.proofs.Shown.{phase_is_shown}
 use Rattle.attempt_table.proofs.Entries.{says_owned}
 use Rattle.attempt_table.proofs.attempts.Attempts.own.Goals as goal
 
@@ -13,7 +14,13 @@ returns-in-Some-Answered-clause-tells c = λ s P tells.
     let h = c.enter.ensures in
     let found : row_of c.args.n.0 t.rows.items ≡ Some c.in-Some-Answered.field-0 = sym c.row.ensures ∙ c.in-Some-Answered.is in
     let same : h.row ≡ c.in-Some-Answered.field-0 = cc (h.was, found) in
-    let is : h.row.phase ≡ Answered a = ap (λ (r : Row). r.phase) same ∙ c.in-Some-Answered.field-0-is in
+    let known : c.in-Some-Answered.field-0.phase ≡ Answered a = search rules in
+    let is : h.row.phase ≡ Answered a = ap (λ (r : Row). r.phase) same ∙ known in
     let tag : tag_in (row_of c.args.n.0 t.rows.items) ≡ c.in-Some-Answered.field-0.tag = ap tag_in found in
     rw (c.show.ensures, ← tag, c.unclaim.ensures)
     (says_owned s P t.rows.items t.tags.items t.claims.items t.lates.items tells c.args.n a c.enter.new.rows.items h is)
+
+pub returns-in-Some-Answered-clause-armed : goal.returns-in-Some-Answered-clause-armed
+returns-in-Some-Answered-clause-armed c = λ s P tells.
+    let t = c.args.self.now in
+    phase_is_shown s P t.rows.items t.tags.items t.claims.items t.lates.items tells c.args.n.0 (Answered c.requires.0) c.requires.1 refl
