@@ -6,3 +6,4 @@ pub mod Numbers
 pub mod Changes
 pub mod Entries
 pub mod Sending
+pub mod Queries

@@ -9,6 +9,8 @@
 mod attempts;
 mod laws;
 mod rows;
+#[cfg(test)]
+mod tests;
 
 pub use attempts::Attempts;
 pub use laws::{
