@@ -7,3 +7,4 @@ pub mod Changes
 pub mod Entries
 pub mod Sending
 pub mod Queries
+pub mod Told

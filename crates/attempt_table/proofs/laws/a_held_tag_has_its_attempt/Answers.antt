@@ -1,7 +1,5 @@
-use Rattle.attempt_table.proofs.Shown.{held_has_attempt}
+use Rattle.attempt_table.proofs.Told.{armed_is_live}
 use Rattle.attempt_table.proofs.laws.a_held_tag_has_its_attempt.Goals as goal
 
 pub returns : goal.returns
-returns c = λ s P tells.
-    let t = c.args.attempts.now in
-    held_has_attempt s P t.rows.items t.tags.items t.claims.items t.lates.items tells
+returns c = armed_is_live
