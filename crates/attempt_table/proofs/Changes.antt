@@ -48,7 +48,7 @@ module _ (s : HostSpec) (P : List Entry) (table : List Row) (shown : List TagSta
     pub tags_kept : ((u : ℕ) → sent_with u P' ≡ sent_with u P) → ((m : ℕ) → state_in m (row_of m table') ≡ state_in m (row_of m table)) → shown ≡ tag_states s P'
     tags_kept last states =
         run.tags ∙ sym (tags_same 0 s.can_queue P P' (λ u le.
-          tag_from u (sent_with u P) (last u) ∙ (states (sent_with u P) ∙ sym (tag_is s P table shown waiting strays run u))))
+        tag_from u (sent_with u P) (last u) ∙ (states (sent_with u P) ∙ sym (tag_is s P table shown waiting strays run u))))
 
     pub claims_kept : ((n : ℕ) → is_due n P' ≡ false) → attempts P' ≡ attempts P → ((n : ℕ) → claims_in n (row_of n table') ≡ claims_in n (row_of n table))
         → waiting ≡ waiting_claims P'
@@ -98,9 +98,9 @@ module _ (s : HostSpec) (P : List Entry) (table : List Row) (shown : List TagSta
           let u = (tag_in (row_of n table)).0 in
           let here : tag_state P' u ≡ y = tag_from u n (last u ∙ run.live n live) ∙ (ap (state_in n) (moved_here n x table table' h) ∙ state) in
           let others : (v : ℕ) → v ≢ u → tag_state P' v ≡ tag_state P v = λ v ne.
-              tag_from v (sent_with v P) (last v)
-              ∙ (ap (state_in (sent_with v P)) (moved_other n x table table' h (sent_with v P) (λ e. ne (own_tag n v live e)))
-              ∙ sym (tag_is s P table shown waiting strays run v))
+          tag_from v (sent_with v P) (last v)
+          ∙ (ap (state_in (sent_with v P)) (moved_other n x table table' h (sent_with v P) (λ e. ne (own_tag n v live e)))
+          ∙ sym (tag_is s P table shown waiting strays run v))
           in
           ap (λ (xs : List TagState). slice_set xs u y) run.tags
           ∙ sym (tags_set 0 s.can_queue u u P P' y (omega arith) others here)

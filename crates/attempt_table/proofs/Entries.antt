@@ -151,7 +151,7 @@ module _ (s : HostSpec) (P : List Entry) (table : List Row) (shown : List TagSta
       let unwanted : (k : ℕ) → (n.0 == k) ≡ true → is_wanted k P ≡ false = λ k e. subst (λ (j : ℕ). is_wanted j P ≡ false) (eqb-true n.0 k e) (wanted_row n.0 ∙ un) in
       says_still s P table shown waiting strays run (entry.Ready n a ∷ P) table
       (λ k. let at = run.rows k in
-        (at.0, at.1, strayed (n.0 == k) (is_open k P) (is_answered k P) _ (unwanted k) at.2, rw (unwanted_by (n.0 == k) (is_wanted k P) (unwanted k)) at.3, at.4, at.5, at.6, at.7, at.8))
+      (at.0, at.1, strayed (n.0 == k) (is_open k P) (is_answered k P) _ (unwanted k) at.2, rw (unwanted_by (n.0 == k) (is_wanted k P) (unwanted k)) at.3, at.4, at.5, at.6, at.7, at.8))
       (strays ++ n.0 ∷ []) (record { sends_are = refl; numbers = refl; last = λ u. refl; tagged = λ k. refl }) refl
       (λ k. one_more k (unwanted k) ∙ sym (times_more k n.0 strays)) run.timeless
     where

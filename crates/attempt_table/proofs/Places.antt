@@ -1,6 +1,6 @@
 -- Rows and tags at their places, after a change at one place or one row more.
 use Rattle.std.proofs.Common.{◌≡◌, ◌≢◌, ℕ, zero, suc, ◌+◌, ◌-◌, ◌<◌, ◌≤◌, true, List, [], ◌∷◌, ◌++◌, Option, Some, None, length, refl, sym, ap, ◌∙◌, subst, arith, add-one}
-use Rattle.std.specs.Prelude.{slice_get, slice_set, option_map}
+use Rattle.std.specs.Prelude.{slice_get, slice_set}
 use Rattle.std.proofs.Math.ListN.{length-set}
 use Rattle.mid_base.specs.declared.answers.TagState.{TagState}
 use Rattle.mid_base.specs.declared.entries.Entry.{Entry}
@@ -8,7 +8,7 @@ use Rattle.trace_model.specs.Steps.{tag_state, tags_from}
 use Rattle.attempt_table.specs.declared.rows.Phase.{Phase}
 use Rattle.attempt_table.specs.declared.rows.Phase.TheVariants.{Open, Answered, Owned, Settled, Bounced}
 use Rattle.attempt_table.specs.declared.rows.Row.{Row}
-use Rattle.attempt_table.specs.Rows.{row_of, phase_of, wanting_at, wanting_in, with_phase, Moves}
+use Rattle.attempt_table.specs.Rows.{row_of, wanting_at, wanting_in, with_phase, Moves}
 
 get_past : {A : Type 0} (xs : List A) (k : ℕ) → length xs ≤ k → slice_get xs k ≡ None
 get_past [] k le = refl
@@ -62,11 +62,6 @@ row_front rows row zero ne = refl
 row_front rows row (suc k) ne = get_front rows row k (λ e. ne (omega (arith, e)))
 
 -- a row in another phase
-pub phase_row : (n : ℕ) (x y : Phase) (old new : List Row) (h : Moves n x old new) → phase_of n old ≡ Some y → h.row.phase ≡ y
-phase_row n x y old new h is =
-    let was : ◌≡◌ {A = Option Phase} (Some h.row.phase) (Some y) = sym (ap (option_map (λ (r : Row). r.phase)) h.was) ∙ is in
-    cc
-
 pub wanting_row : (n : ℕ) (x : Phase) (old new : List Row) (h : Moves n x old new) → wanting_in (row_of n old) ≡ true → h.row.phase ≡ Open
 wanting_row n x old new h wanting = by_phase h.row.phase (sym (ap wanting_in h.was) ∙ wanting)
   where

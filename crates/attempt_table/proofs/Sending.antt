@@ -124,10 +124,10 @@ module _ (s : HostSpec) (P : List Entry) (table : List Row) (shown : List TagSta
       let last : sent_with row.tag.0 P' ≡ next = rw (same row.tag.0) refl in
       let here : tag_state P' row.tag.0 ≡ TagArmed (next_attempt table) = tag_from row.tag.0 next last ∙ (ap (state_in next) (row_last table row next refl) ∙ opened) in
       let others : (v : ℕ) → v ≢ row.tag.0 → tag_state P' v ≡ tag_state P v = λ v ne.
-          let before : sent_with v P' ≡ sent_with v P = rw (differ (λ (e : row.tag.0 ≡ v). ne (sym e))) refl in
-          tag_from v (sent_with v P) before
-          ∙ (ap (state_in (sent_with v P)) (row_front table row (sent_with v P) (λ e. fresh v (sym e)))
-          ∙ sym (tag_is s P table shown waiting strays run v))
+      let before : sent_with v P' ≡ sent_with v P = rw (differ (λ (e : row.tag.0 ≡ v). ne (sym e))) refl in
+      tag_from v (sent_with v P) before
+      ∙ (ap (state_in (sent_with v P)) (row_front table row (sent_with v P) (λ e. fresh v (sym e)))
+      ∙ sym (tag_is s P table shown waiting strays run v))
       in
       ap (λ (xs : List TagState). slice_set xs row.tag.0 (TagArmed (next_attempt table))) run.tags
       ∙ sym (tags_set 0 s.can_queue row.tag.0 row.tag.0 P P' (TagArmed (next_attempt table)) (omega arith) others here)

@@ -1,6 +1,6 @@
 -- What the states of tags and the claims come to by the rows.
 use Rattle.std.proofs.Common.{◌≡◌, ◌≢◌, ℕ, ◌+◌, ◌<◌, ◌==◌, Bool, true, false, ◌&&◌, ◌||◌, cond, List, [], ◌∷◌, ◌++◌, Option, Some, None, refl, sym, ap, ◌∙◌, subst, arith, inl, inr}
-use Rattle.std.specs.Prelude.{slice_get, option_map}
+use Rattle.std.specs.Prelude.{slice_get}
 use Rattle.std.proofs.lemmas.Bool.{cases_Bool, eqb-true}
 use Rattle.mid_base.specs.declared.names.Attempt.{Attempt}
 use Rattle.mid_base.specs.declared.names.Tag.{Tag}
@@ -17,7 +17,7 @@ use Rattle.trace_model.specs.Steps.{sent_with, state_by, tag_state, tags_from, t
 use Rattle.attempt_table.specs.declared.rows.Phase.{Phase}
 use Rattle.attempt_table.specs.declared.rows.Phase.TheVariants.{Open, Answered, Owned, Settled, Bounced}
 use Rattle.attempt_table.specs.declared.rows.Row.{Row}
-use Rattle.attempt_table.specs.Rows.{row_of, phase_of, open_at, owned_at, settled_at, owner_at, open_in, settled_in, owner_in, claimed_in, live_in, tag_in, shown_at, shown_in}
+use Rattle.attempt_table.specs.Rows.{row_of, open_at, claimed_at, owned_at, settled_at, owner_at, open_in, settled_in, owner_in, claimed_in, owned_in, live_in, tag_in, shown_at, shown_in}
 use Rattle.attempt_table.specs.Claims.{Claim}
 use Rattle.attempt_table.specs.Tells.{Reads, Says}
 use Rattle.attempt_table.proofs.Bools.{same, and_false}
@@ -99,13 +99,27 @@ pub not_none : (x : Option Row) → live_in x ≡ true → x ≢ None
 not_none None live e = cc
 not_none (Some r) live e = cc
 
-phase_live : (x : Option Row) (y : Phase) → option_map (λ (r : Row). r.phase) x ≡ Some y → (open_at y || owned_at y) ≡ true → live_in x ≡ true
-phase_live None y e live = cc
-phase_live (Some r) y e live = let is : r.phase ≡ y = cc in rw is live
+claimed_shown : (n : ℕ) (x : Option Row) → claimed_in x ≡ true → (live_in x ≡ true) × (shown_in n x ≡ TagArmed (record { 0 = n }))
+claimed_shown n None claimed = cc
+claimed_shown n (Some r) claimed = by_phase r.phase claimed
+  where
+    by_phase : (y : Phase) → claimed_at y ≡ true → ((open_at y || owned_at y) ≡ true) × (shown_at n y ≡ TagArmed (record { 0 = n }))
+    by_phase Open claimed = cc
+    by_phase (Answered a) claimed = (refl, refl)
+    by_phase (Owned a) claimed = cc
+    by_phase (Settled a) claimed = cc
+    by_phase Bounced claimed = cc
 
-phase_shown : (n : ℕ) (x : Option Row) (y : Phase) → option_map (λ (r : Row). r.phase) x ≡ Some y → shown_in n x ≡ shown_at n y
-phase_shown n None y e = cc
-phase_shown n (Some r) y e = let is : r.phase ≡ y = cc in ap (shown_at n) is
+owned_shown : (n : ℕ) (x : Option Row) → owned_in x ≡ true → (live_in x ≡ true) × (shown_in n x ≡ TagOwned (record { 0 = n }) ByAnswer)
+owned_shown n None owned = cc
+owned_shown n (Some r) owned = by_phase r.phase owned
+  where
+    by_phase : (y : Phase) → owned_at y ≡ true → ((open_at y || owned_at y) ≡ true) × (shown_at n y ≡ TagOwned (record { 0 = n }) ByAnswer)
+    by_phase Open owned = cc
+    by_phase (Answered a) owned = cc
+    by_phase (Owned a) owned = (refl, refl)
+    by_phase (Settled a) owned = cc
+    by_phase Bounced owned = cc
 
 module _ (s : HostSpec) (P : List Entry) (table : List Row) (shown : List TagState) (waiting : List Claim) (strays : List ℕ) (run : Says s P table shown waiting strays) where
   pub tag_is : (u : ℕ) → tag_state P u ≡ state_in (sent_with u P) (row_of (sent_with u P) table)
@@ -123,10 +137,13 @@ module _ (s : HostSpec) (P : List Entry) (table : List Row) (shown : List TagSta
       ap (λ (xs : List TagState). slice_get xs u) run.tags
       ∙ (tags_get 0 s.can_queue u u P (omega arith) (run.below n live) ∙ ap Some (live_state n live))
 
-  pub phase_is_shown : (n : ℕ) (y : Phase) → phase_of n table ≡ Some y → (open_at y || owned_at y) ≡ true
-      → slice_get shown (tag_in (row_of n table)).0 ≡ Some (shown_at n y)
-  phase_is_shown n y e live =
-      live_is_shown n (phase_live (row_of n table) y e live) ∙ ap Some (phase_shown n (row_of n table) y e)
+  pub claimed_is_armed : (n : ℕ) → claimed_in (row_of n table) ≡ true → slice_get shown (tag_in (row_of n table)).0 ≡ Some (TagArmed (record { 0 = n }))
+  claimed_is_armed n claimed =
+      let held = claimed_shown n (row_of n table) claimed in live_is_shown n held.0 ∙ ap Some held.1
+
+  pub owned_is_shown : (n : ℕ) → owned_in (row_of n table) ≡ true → slice_get shown (tag_in (row_of n table)).0 ≡ Some (TagOwned (record { 0 = n }) ByAnswer)
+  owned_is_shown n owned =
+      let held = owned_shown n (row_of n table) owned in live_is_shown n held.0 ∙ ap Some held.1
 
   -- the attempt of a tag that is held
   pub held_state : (u : ℕ) (x : TagState) → slice_get shown u ≡ Some x → tag_state P u ≡ x

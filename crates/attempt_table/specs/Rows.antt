@@ -1,5 +1,5 @@
 -- What the rows of attempts say. Attempts are told by their numbers, from 1 on; 0 is none.
-use Rattle.std.specs.Prelude.{◌≡◌, ℕ, zero, suc, ◌+◌, ◌-◌, Bool, true, false, ◌||◌, List, Option, None, Some, slice_get, slice_set, length, option_map, nat_le}
+use Rattle.std.specs.Prelude.{◌≡◌, ℕ, zero, suc, ◌+◌, ◌-◌, Bool, true, false, ◌||◌, List, Option, None, Some, slice_get, slice_set, length, nat_le}
 use Rattle.mid_base.specs.declared.names.Attempt.{Attempt}
 use Rattle.mid_base.specs.declared.names.Tag.{Tag}
 use Rattle.mid_base.specs.declared.answers.Answer.{Answer}
@@ -15,10 +15,6 @@ use Rattle.attempt_table.specs.declared.rows.Row.{Row}
 abbrev pub row_of : ℕ → List Row → Option Row
 row_of zero rows = None
 row_of (suc k) rows = slice_get rows k
-
--- how far attempt n has come
-abbrev pub phase_of : ℕ → List Row → Option Phase
-phase_of n rows = option_map (λ r. r.phase) (row_of n rows)
 
 -- the attempt that is sent next
 abbrev pub next_attempt : List Row → Attempt
@@ -74,9 +70,12 @@ claimed_in x = in_row claimed_at x
 abbrev pub settled_in : Option Row → Bool
 settled_in x = in_row settled_at x
 
+abbrev pub owned_in : Option Row → Bool
+owned_in x = in_row owned_at x
+
 -- the attempt is under way: it holds its tag
 abbrev pub live_in : Option Row → Bool
-live_in x = open_in x || in_row owned_at x
+live_in x = open_in x || owned_in x
 
 abbrev pub owner_in : Option Row → Option By
 owner_in None = None

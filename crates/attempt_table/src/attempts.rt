@@ -12,7 +12,7 @@ ghost use Rattle.trace_model.specs.Names.{command};
 ghost use Rattle.trace_model.specs.Attempts.{attempts, is_open, is_answered, is_due, answered, late};
 ghost use Rattle.trace_model.specs.Time.{is_expired};
 ghost use Rattle.trace_model.specs.Steps.{tag_states, waiting_claims, IsNextLate};
-ghost use Rattle.attempt_table.specs.Rows.{row_of, phase_of, next_attempt, wanting_in, tag_in, is_over, Moves};
+ghost use Rattle.attempt_table.specs.Rows.{row_of, next_attempt, wanting_in, claimed_in, owned_in, answer_in, tag_in, is_over, Moves};
 ghost use Rattle.attempt_table.specs.Claims.{claims_with, claims_without};
 
 use crate::{Phase, Row};
@@ -220,7 +220,7 @@ impl Attempts {
 
     /// The lower layer turned an attempt away that is open and not answered: its tag is free again.
     pub fn bounce(&mut self, n: Attempt)
-        requires { phase_of n.0 self.old.rows.items ≡ Some Phase.Open }
+        requires { wanting_in (row_of n.0 self.old.rows.items) ≡ true }
         ensures tells { (s : SpecSeen) (P : List EntrySeen) (c : CmdIdSeen) (why : BusyOfSeen) → Tells s P self.old → Tells s (entries.Bounced c n why ∷ P) self.new }
         ensures rows { Moves n.0 Phase.Bounced self.old.rows.items self.new.rows.items }
         ensures tags { self.new.tags.items ≡ slice_set self.old.tags.items (tag_in (row_of n.0 self.old.rows.items)).0 TagState.Free }
@@ -258,13 +258,20 @@ impl Attempts {
 
     /// An attempt that waits for its owner is given to its answer.
     pub fn own(&mut self, n: Attempt)
-        requires { (a : _) × (phase_of n.0 self.old.rows.items ≡ Some (Phase.Answered a)) }
+        requires { claimed_in (row_of n.0 self.old.rows.items) ≡ true }
         ensures tells { (s : SpecSeen) (P : List EntrySeen) → Tells s P self.old → Tells s (entries.Owned n ByAnswer ∷ P) self.new }
-        ensures rows { (a : _) → phase_of n.0 self.old.rows.items ≡ Some (Phase.Answered a) → Moves n.0 (Phase.Owned a) self.old.rows.items self.new.rows.items }
+        ensures rows { (a : _) → answer_in (row_of n.0 self.old.rows.items) ≡ Some a → Moves n.0 (Phase.Owned a) self.old.rows.items self.new.rows.items }
         ensures armed { (s : SpecSeen) (P : List EntrySeen) → Tells s P self.old → slice_get self.old.tags.items (tag_in (row_of n.0 self.old.rows.items)).0 ≡ Some (TagState.Armed n) }
         ensures tags { self.new.tags.items ≡ slice_set self.old.tags.items (tag_in (row_of n.0 self.old.rows.items)).0 (TagState.Owned n By.Answer) }
     {
-        if let Some(Row { tag, phase: Phase::Answered(a), .. }) = self.row(n) {
+        if let Some(
+            Row {
+                tag,
+                phase: Phase::Answered(a),
+                ..
+            },
+        ) = self.row(n)
+        {
             enter(&mut self.rows, n, Phase::Owned(a));
             unclaim(&mut self.claims, n);
             show(&mut self.tags, tag, TagState::Owned(n, By::Answer));
@@ -273,13 +280,20 @@ impl Attempts {
 
     /// An attempt that its answer owns is judged: its tag is free again.
     pub fn settle(&mut self, n: Attempt)
-        requires { (a : _) × (phase_of n.0 self.old.rows.items ≡ Some (Phase.Owned a)) }
+        requires { owned_in (row_of n.0 self.old.rows.items) ≡ true }
         ensures tells { (s : SpecSeen) (P : List EntrySeen) (c : CmdIdSeen) (d : DispSeen) → Tells s P self.old → Tells s (entries.Judged c n d ∷ P) self.new }
-        ensures rows { (a : _) → phase_of n.0 self.old.rows.items ≡ Some (Phase.Owned a) → Moves n.0 (Phase.Settled a) self.old.rows.items self.new.rows.items }
+        ensures rows { (a : _) → answer_in (row_of n.0 self.old.rows.items) ≡ Some a → Moves n.0 (Phase.Settled a) self.old.rows.items self.new.rows.items }
         ensures owned { (s : SpecSeen) (P : List EntrySeen) → Tells s P self.old → slice_get self.old.tags.items (tag_in (row_of n.0 self.old.rows.items)).0 ≡ Some (TagState.Owned n By.Answer) }
         ensures tags { self.new.tags.items ≡ slice_set self.old.tags.items (tag_in (row_of n.0 self.old.rows.items)).0 TagState.Free }
     {
-        if let Some(Row { tag, phase: Phase::Owned(a), .. }) = self.row(n) {
+        if let Some(
+            Row {
+                tag,
+                phase: Phase::Owned(a),
+                ..
+            },
+        ) = self.row(n)
+        {
             enter(&mut self.rows, n, Phase::Settled(a));
             show(&mut self.tags, tag, TagState::Free);
         }

@@ -3,7 +3,7 @@ use Rattle.mid_base.specs.declared.names.Tag.{Tag}
 use Rattle.attempt_table.specs.declared.rows.Phase.TheVariants.{Answered, Owned}
 use Rattle.attempt_table.specs.declared.rows.Row.{Row}
 use Rattle.attempt_table.specs.Rows.{row_of, tag_in}
-use Rattle.attempt_table.proofs.Shown.{phase_is_shown}
+use Rattle.attempt_table.proofs.Shown.{claimed_is_armed}
 use Rattle.attempt_table.proofs.Entries.{says_owned}
 use Rattle.attempt_table.proofs.attempts.Attempts.own.Goals as goal
 
@@ -23,4 +23,4 @@ returns-in-Some-Answered-clause-tells c = λ s P tells.
 pub returns-in-Some-Answered-clause-armed : goal.returns-in-Some-Answered-clause-armed
 returns-in-Some-Answered-clause-armed c = λ s P tells.
     let t = c.args.self.now in
-    phase_is_shown s P t.rows.items t.tags.items t.claims.items t.lates.items tells c.args.n.0 (Answered c.requires.0) c.requires.1 refl
+    claimed_is_armed s P t.rows.items t.tags.items t.claims.items t.lates.items tells c.args.n.0 c.requires

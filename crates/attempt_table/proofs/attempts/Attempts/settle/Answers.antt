@@ -3,7 +3,7 @@ use Rattle.mid_base.specs.declared.names.Tag.{Tag}
 use Rattle.attempt_table.specs.declared.rows.Phase.TheVariants.{Owned}
 use Rattle.attempt_table.specs.declared.rows.Row.{Row}
 use Rattle.attempt_table.specs.Rows.{row_of, tag_in}
-use Rattle.attempt_table.proofs.Shown.{phase_is_shown}
+use Rattle.attempt_table.proofs.Shown.{owned_is_shown}
 use Rattle.attempt_table.proofs.Entries.{says_judged}
 use Rattle.attempt_table.proofs.attempts.Attempts.settle.Goals as goal
 
@@ -23,4 +23,4 @@ returns-in-Some-Owned-clause-tells c = λ s P k d tells.
 pub returns-in-Some-Owned-clause-owned : goal.returns-in-Some-Owned-clause-owned
 returns-in-Some-Owned-clause-owned c = λ s P tells.
     let t = c.args.self.now in
-    phase_is_shown s P t.rows.items t.tags.items t.claims.items t.lates.items tells c.args.n.0 (Owned c.requires.0) c.requires.1 refl
+    owned_is_shown s P t.rows.items t.tags.items t.claims.items t.lates.items tells c.args.n.0 c.requires
