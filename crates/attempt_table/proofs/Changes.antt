@@ -1,16 +1,14 @@
 -- What one entry more does to what the table says, by what it does to the rows.
-use Rattle.std.proofs.Common.{◌≡◌, ◌≢◌, ℕ, ◌+◌, ◌<◌, ◌≤◌, ◌==◌, Bool, true, false, ◌&&◌, List, [], ◌∷◌, Option, Some, None, length, refl, sym, ap, ◌∙◌, subst, arith, inl, inr}
+use Rattle.std.proofs.Common.{◌≡◌, ◌≢◌, ℕ, ◌<◌, true, false, List, [], ◌∷◌, Option, Some, length, refl, sym, ap, ◌∙◌, subst, arith, inl, inr}
 use Rattle.std.specs.Prelude.{slice_set}
-use Rattle.std.proofs.lemmas.Bool.{cases_Bool, cases_eq}
+use Rattle.std.proofs.lemmas.Bool.{cases_eq}
 use Rattle.mid_base.specs.declared.names.Tag.{Tag}
-use Rattle.mid_base.specs.declared.names.Attempt.{Attempt}
 use Rattle.mid_base.specs.declared.answers.By.TheVariants.{Answer as ByAnswer}
 use Rattle.mid_base.specs.declared.answers.TagState.{TagState}
-use Rattle.mid_base.specs.declared.answers.TagState.TheVariants.{Free as TagFree}
 use Rattle.mid_base.specs.declared.entries.Entry.{Entry}
 use Rattle.mid_base.specs.declared.host_spec.HostSpec.{HostSpec}
 use Rattle.trace_model.specs.Attempts.{attempts, sends, late, is_due}
-use Rattle.trace_model.specs.Steps.{sent_with, tag_state, tags_from, tag_states, tag_for, claims_of, waiting_claims}
+use Rattle.trace_model.specs.Steps.{sent_with, tag_state, tag_states, tag_for, waiting_claims}
 use Rattle.attempt_table.specs.declared.rows.Phase.{Phase}
 use Rattle.attempt_table.specs.declared.rows.Row.{Row}
 use Rattle.attempt_table.specs.Rows.{row_of, claimed_at, live_in, tag_in, with_phase, Moves}

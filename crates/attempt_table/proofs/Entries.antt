@@ -1,5 +1,5 @@
 -- What each entry does to what the table says.
-use Rattle.std.proofs.Common.{◌≡◌, ◌≢◌, ℕ, ◌+◌, ◌==◌, Bool, true, false, not, ◌&&◌, ◌||◌, cond, List, [], ◌∷◌, ◌++◌, Option, Some, None, refl, sym, ap, ◌∙◌, subst, arith, inl, inr}
+use Rattle.std.proofs.Common.{◌≡◌, ℕ, ◌+◌, ◌==◌, Bool, true, false, not, ◌&&◌, ◌||◌, cond, List, [], ◌∷◌, ◌++◌, Option, Some, None, refl, sym, ap, ◌∙◌, subst, inl, inr}
 use Rattle.std.specs.Prelude.{slice_set}
 use Rattle.std.proofs.lemmas.Bool.{cases_Bool, eqb-true}
 use Rattle.mid_base.specs.declared.names.Attempt.{Attempt}
@@ -23,7 +23,7 @@ use Rattle.attempt_table.specs.Claims.{Claim, claims_with, claims_without}
 use Rattle.attempt_table.specs.Tells.{times, Reads, Says, IsApart}
 use Rattle.attempt_table.proofs.Bools.{same, differ, wanted_by, unwanted_by, strays as strayed}
 use Rattle.attempt_table.proofs.Numbers.{times_more}
-use Rattle.attempt_table.proofs.Changes.{IsUnsent, says_still, says_moved, tags_moved, tags_unmoved, claims_unmoved, claims_put, claims_cut, reads_moved}
+use Rattle.attempt_table.proofs.Changes.{says_still, says_moved, tags_moved, tags_unmoved, claims_unmoved, claims_put, claims_cut, reads_moved}
 
 module _ (s : HostSpec) (P : List Entry) (table : List Row) (shown : List TagState) (waiting : List Claim) (strays : List ℕ) (run : Says s P table shown waiting strays) where
   -- entries that say nothing of attempts

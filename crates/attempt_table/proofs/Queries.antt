@@ -1,8 +1,8 @@
 -- What the table's queries come to by the journal.
-use Rattle.std.proofs.Common.{◌≡◌, ◌≢◌, ℕ, zero, suc, ◌+◌, ◌<◌, ◌≤◌, ◌==◌, Bool, true, false, not, ◌&&◌, ◌||◌, cond, List, [], ◌∷◌, ◌++◌, Option, Some, None, length, refl, sym, ap, ◌∙◌, subst, arith, inl, inr, add-one}
+use Rattle.std.proofs.Common.{◌≡◌, ℕ, zero, suc, ◌+◌, ◌<◌, ◌≤◌, ◌==◌, Bool, true, false, not, ◌&&◌, ◌||◌, cond, List, [], ◌∷◌, ◌++◌, Option, Some, None, length, refl, sym, ap, ◌∙◌, subst, arith, inl, inr}
 use Rattle.std.specs.Prelude.{is_some, option_map, pred, nat_lt, nat_le, slice_get, replicate}
 use Rattle.std.specs.List.{list_any}
-use Rattle.std.proofs.lemmas.Bool.{cases_Bool, cases_eq, eqb-true, eq-eqb, lt-ltb, ltb-true, and_parts}
+use Rattle.std.proofs.lemmas.Bool.{cases_Bool, cases_eq, eqb-true, lt-ltb, ltb-true}
 use Rattle.mid_base.specs.declared.names.Attempt.{Attempt}
 use Rattle.mid_base.specs.declared.answers.Answer.{Answer}
 use Rattle.mid_base.specs.declared.answers.By.TheVariants.{Answer as ByAnswer, Expiry as ByExpiry}
@@ -15,7 +15,7 @@ use Rattle.mid_base.specs.Answers.{with_sense}
 use Rattle.mid_base.specs.Past.{ticks}
 use Rattle.trace_model.specs.Attempts.{attempts, is_open, is_answered, answer, answered, late, is_due, is_said_done}
 use Rattle.trace_model.specs.Flush.{is_empty}
-use Rattle.trace_model.specs.Steps.{state_by, sent_with, tag_state, tags_from, claims_of, claims_among}
+use Rattle.trace_model.specs.Steps.{state_by, sent_with, tags_from, claims_of, claims_among}
 use Rattle.trace_model.specs.Time.{deadline, is_expired}
 use Rattle.attempt_table.specs.declared.rows.Phase.{Phase}
 use Rattle.attempt_table.specs.declared.rows.Phase.TheVariants.{Open, Answered, Owned, Settled, Bounced}

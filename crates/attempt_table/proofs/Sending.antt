@@ -1,11 +1,9 @@
 -- What the table says after an attempt was sent.
-use Rattle.std.proofs.Common.{◌≡◌, ◌≢◌, ℕ, ◌+◌, ◌*◌, ◌<◌, ◌==◌, Bool, true, false, cond, List, [], ◌∷◌, ◌++◌, Option, Some, None, length, refl, sym, ap, ◌∙◌, subst, arith, inl, inr}
-use Rattle.std.specs.Prelude.{is_some, slice_get, slice_set}
+use Rattle.std.proofs.Common.{◌≡◌, ◌≢◌, ℕ, ◌+◌, ◌<◌, ◌==◌, true, List, [], ◌∷◌, ◌++◌, Option, Some, None, length, refl, sym, ap, ◌∙◌, subst, arith, inl, inr}
+use Rattle.std.specs.Prelude.{slice_get, slice_set}
 use Rattle.std.proofs.Math.ListN.{length-append}
-use Rattle.std.proofs.lemmas.Bool.{cases_Bool, cases_eq, eqb-true, eqb-false}
+use Rattle.std.proofs.lemmas.Bool.{cases_Bool, cases_eq, eqb-true}
 use Rattle.std.proofs.lemmas.List.{append-nil}
-use Rattle.mid_base.specs.declared.names.Attempt.{Attempt}
-use Rattle.mid_base.specs.declared.names.Tag.{Tag}
 use Rattle.mid_base.specs.declared.answers.TagState.{TagState}
 use Rattle.mid_base.specs.declared.answers.TagState.TheVariants.{Free as TagFree, Armed as TagArmed}
 use Rattle.mid_base.specs.declared.entries.Entry.{Entry}
@@ -13,20 +11,19 @@ use Rattle.mid_base.specs.declared.entries.Entry.TheVariants.{Sent}
 use Rattle.mid_base.specs.declared.host_spec.HostSpec.{HostSpec}
 use Rattle.mid_base.specs.Past.{ticks, was_sent}
 use Rattle.trace_model.specs.Names.{command}
-use Rattle.trace_model.specs.Attempts.{attempts, is_due}
+use Rattle.trace_model.specs.Attempts.{attempts}
 use Rattle.trace_model.specs.Time.{deadline}
-use Rattle.trace_model.specs.Steps.{sent_with, tag_state, tags_from, tag_states, tag_for, claims_of, claims_among, waiting_claims}
-use Rattle.attempt_table.specs.declared.rows.Phase.{Phase}
+use Rattle.trace_model.specs.Steps.{sent_with, tag_state, tag_states, tag_for, claims_of, claims_among, waiting_claims}
 use Rattle.attempt_table.specs.declared.rows.Phase.TheVariants.{Open}
 use Rattle.attempt_table.specs.declared.rows.Row.{Row}
 use Rattle.attempt_table.specs.Rows.{row_of, next_attempt, open_at, claimed_at, owner_at, answer_at, settled_at, live_in, tag_in, shown_in}
 use Rattle.attempt_table.specs.Claims.{Claim}
-use Rattle.attempt_table.specs.Tells.{countdown, Reads, Says}
+use Rattle.attempt_table.specs.Tells.{Reads, Says}
 use Rattle.attempt_table.proofs.Bools.{same, differ}
 use Rattle.attempt_table.proofs.Numbers.{countdown_more}
 use Rattle.attempt_table.proofs.Places.{row_new, row_last, row_front, tags_set, tags_within}
 use Rattle.attempt_table.proofs.Shown.{state_in, claims_in, state_is, claims_are, last_was_sent, shown_held, tag_is, live_is_shown}
-use Rattle.attempt_table.proofs.Claimed.{among, among_are, among_same}
+use Rattle.attempt_table.proofs.Claimed.{among_are, among_same}
 
 module _ (s : HostSpec) (P : List Entry) (table : List Row) (shown : List TagState) (waiting : List Claim) (strays : List ℕ) (run : Says s P table shown waiting strays)
     (row : Row) (is : row.phase ≡ Open) (free : slice_get shown row.tag.0 ≡ Some TagFree) (due : row.deadline.0 ≡ ticks P + (command s row.command.0).timeout) where

@@ -8,7 +8,7 @@ use Rattle.mid_base.specs.declared.answers.By.TheVariants.{Answer as ByAnswer}
 use Rattle.mid_base.specs.declared.answers.TagState.{TagState}
 use Rattle.mid_base.specs.declared.answers.TagState.TheVariants.{Free as TagFree, Armed as TagArmed, Owned as TagOwned}
 use Rattle.attempt_table.specs.declared.rows.Phase.{Phase}
-use Rattle.attempt_table.specs.declared.rows.Phase.TheVariants.{Open, Answered, Owned, Settled, Bounced}
+use Rattle.attempt_table.specs.declared.rows.Phase.TheVariants.{Open, Answered, Owned, Settled}
 use Rattle.attempt_table.specs.declared.rows.Row.{Row}
 
 -- the row of attempt n

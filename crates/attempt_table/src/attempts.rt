@@ -1,5 +1,5 @@
-ghost use Rattle.std.specs.Prelude.{◌≡◌, ◌≢◌, ◌++◌, ◌<◌, ◌≤◌, ◌+◌, [], ℕ, true, false, List, ◌∷◌, ◌&&◌, ◌||◌, Some, IsSome, IfOk, OnOk, MatchOption, All, Contains, length, slice_get, slice_set, nat_lt, vec_len, vec_capacity, is_some, unwrap_or};
-ghost use Rattle.std.specs.List.{list_any, position};
+ghost use Rattle.std.specs.Prelude.{◌≡◌, ◌++◌, ◌<◌, ◌≤◌, ◌+◌, [], true, false, List, ◌∷◌, ◌&&◌, ◌||◌, Some, IfOk, OnOk, MatchOption, All, Contains, length, slice_get, slice_set, nat_lt};
+ghost use Rattle.std.specs.List.{list_any};
 ghost use Rattle.mid_base.specs.declared.answers.By.TheVariants.{Answer as ByAnswer};
 ghost use Rattle.mid_base.specs.declared.answers.BusyOf.{BusyOf as BusyOfSeen};
 ghost use Rattle.mid_base.specs.declared.answers.Disp.{Disp as DispSeen};
@@ -13,8 +13,9 @@ ghost use Rattle.trace_model.specs.Attempts.{attempts, is_open, is_answered, is_
 ghost use Rattle.trace_model.specs.Time.{is_expired};
 ghost use Rattle.trace_model.specs.Steps.{tag_states, waiting_claims, IsNextLate};
 ghost use Rattle.attempt_table.specs.Rows.{row_of, next_attempt, wanting_in, claimed_in, owned_in, answer_in, tag_in, is_over, Moves};
-ghost use Rattle.attempt_table.specs.Claims.{claims_with, claims_without};
 
+use crate::claims::{claim, unclaim};
+use crate::rows::enter;
 use crate::{Phase, Row};
 use mid_base::{Answer, Attempt, By, NoMemory, Tag, TagState, Tick};
 use std::alloc::Global;
@@ -30,16 +31,6 @@ pub struct Attempts {
     lates: Vec<u64>,
 }
 
-// The attempt comes to a phase.
-fn enter(rows: &mut Vec<Row>, n: Attempt, phase: Phase)
-    requires { IsSome (row_of n.0 rows.old.items) }
-    ensures { Moves n.0 phase rows.old.items rows.new.items }
-{
-    let place = (n.0 - 1) as usize;
-    let row = rows[place];
-    rows[place] = Row { phase, ..row };
-}
-
 // The tag comes to a state. Where there is no such tag, nothing changes.
 fn show(tags: &mut Vec<TagState>, tag: Tag, state: TagState)
     ensures { tags.new.items ≡ slice_set tags.old.items tag.0 state }
@@ -47,30 +38,6 @@ fn show(tags: &mut Vec<TagState>, tag: Tag, state: TagState)
     if let Some(slot) = tags.get_mut(usize::from(tag.0)) {
         *slot = state;
     }
-}
-
-// How many claims stand before the first one of a later attempt.
-fn place_of(claims: &[(Tag, Attempt, By)], n: Attempt) -> usize
-    ensures { result ≡ unwrap_or (position (λ x. nat_lt n.0 x.1.0) claims.now) (length claims.now) }
-{
-    let later = claims.iter().position(|claim| n.0 < claim.1.0);
-    later.unwrap_or(claims.len())
-}
-
-// One claim more, at its place, for which there is room.
-fn claim(claims: &mut Vec<(Tag, Attempt, By)>, tag: Tag, n: Attempt)
-    requires { vec_len claims.old < vec_capacity claims.old }
-    ensures { claims.new.items ≡ claims_with (tag, n, ByAnswer) claims.old.items }
-{
-    let place = place_of(claims, n);
-    let _ = claims.insert(place, (tag, n, By::Answer));
-}
-
-// The attempt waits no longer.
-fn unclaim(claims: &mut Vec<(Tag, Attempt, By)>, n: Attempt)
-    ensures { claims.new.items ≡ claims_without n.0 claims.old.items }
-{
-    claims.retain(|claim| claim.1.0 != n.0);
 }
 
 // The least number of a list.

@@ -7,6 +7,7 @@
 #![tactic(auto)]
 
 mod attempts;
+mod claims;
 mod laws;
 mod rows;
 #[cfg(test)]

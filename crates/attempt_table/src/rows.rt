@@ -1,4 +1,7 @@
-use mid_base::{Answer, CmdId, Tag, Tick};
+ghost use Rattle.std.specs.Prelude.{IsSome};
+ghost use Rattle.attempt_table.specs.Rows.{row_of, Moves};
+
+use mid_base::{Answer, Attempt, CmdId, Tag, Tick};
 
 /// How far an attempt has come.
 #[derive(Clone, Copy, PartialEq, Eq, Debug)]
@@ -24,4 +27,14 @@ pub struct Row {
     pub tag: Tag,
     pub deadline: Tick,
     pub phase: Phase,
+}
+
+// The attempt comes to a phase.
+pub fn enter(rows: &mut Vec<Row>, n: Attempt, phase: Phase)
+    requires { IsSome (row_of n.0 rows.old.items) }
+    ensures { Moves n.0 phase rows.old.items rows.new.items }
+{
+    let place = (n.0 - 1) as usize;
+    let row = rows[place];
+    rows[place] = Row { phase, ..row };
 }

@@ -1,5 +1,5 @@
 use Rattle.std.proofs.Common.{◌≡◌, false, sym, ◌∙◌}
-use Rattle.attempt_table.specs.declared.rows.Phase.TheVariants.{Open, Answered}
+use Rattle.attempt_table.specs.declared.rows.Phase.TheVariants.{Answered}
 use Rattle.attempt_table.specs.Rows.{row_of, wanting_in}
 use Rattle.attempt_table.proofs.Places.{wanting_row}
 use Rattle.attempt_table.proofs.Entries.{says_answered, says_stray}

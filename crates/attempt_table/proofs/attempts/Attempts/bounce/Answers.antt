@@ -1,5 +1,4 @@
-use Rattle.std.proofs.Common.{◌≡◌, ap, ◌∙◌}
-use Rattle.attempt_table.specs.declared.rows.Phase.TheVariants.{Open, Bounced}
+use Rattle.attempt_table.specs.declared.rows.Phase.TheVariants.{Bounced}
 use Rattle.attempt_table.proofs.Places.{wanting_row}
 use Rattle.attempt_table.proofs.Entries.{says_bounced}
 use Rattle.attempt_table.proofs.attempts.Attempts.bounce.Goals as goal

@@ -1,4 +1,4 @@
-use Rattle.std.proofs.Common.{rules, ◌≡◌, Bool, not, List, ap, sym, ◌∙◌}
+use Rattle.std.proofs.Common.{rules, ◌≡◌, not, List, ap, sym, ◌∙◌}
 use Rattle.trace_model.specs.Attempts.{attempts}
 use Rattle.trace_model.specs.Flush.{is_empty}
 use Rattle.attempt_table.specs.Claims.{Claim}

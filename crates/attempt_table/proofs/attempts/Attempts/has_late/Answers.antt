@@ -1,4 +1,4 @@
-use Rattle.std.proofs.Common.{rules, ◌≡◌, Bool, not, ap, sym, ◌∙◌}
+use Rattle.std.proofs.Common.{rules, ◌≡◌, not, ap, sym, ◌∙◌}
 use Rattle.trace_model.specs.Flush.{is_empty}
 use Rattle.attempt_table.proofs.Queries.{late_some}
 use Rattle.attempt_table.proofs.attempts.Attempts.has_late.Goals as goal

@@ -1,4 +1,4 @@
-use Rattle.std.proofs.Common.{rules, ◌≡◌, length, ap}
+use Rattle.std.proofs.Common.{rules, ◌≡◌, length}
 use Rattle.attempt_table.proofs.Sending.{says_sent}
 use Rattle.attempt_table.proofs.attempts.Attempts.send.Goals as goal
 

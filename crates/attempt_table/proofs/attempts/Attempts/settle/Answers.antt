@@ -1,5 +1,4 @@
-use Rattle.std.proofs.Common.{rules, ◌≡◌, Option, Some, refl, ap, sym, ◌∙◌}
-use Rattle.mid_base.specs.declared.names.Tag.{Tag}
+use Rattle.std.proofs.Common.{rules, ◌≡◌, Some, ap, sym, ◌∙◌}
 use Rattle.attempt_table.specs.declared.rows.Phase.TheVariants.{Owned}
 use Rattle.attempt_table.specs.declared.rows.Row.{Row}
 use Rattle.attempt_table.specs.Rows.{row_of, tag_in}

@@ -1,10 +1,10 @@
-use Rattle.std.proofs.Common.{◌≡◌, ◌∙◌, ℕ, List, length, Bool, true, cond, ap, subst, sym}
+use Rattle.std.proofs.Common.{◌≡◌, ◌∙◌, ℕ, List, length, Bool, true, cond, ap}
 use Rattle.std.specs.Prelude.{nat_lt, insert, unwrap_or, is_ok}
 use Rattle.std.specs.List.{position, position_or_len}
 use Rattle.mid_base.specs.declared.answers.By.TheVariants.{Answer as ByAnswer}
-use Rattle.attempt_table.specs.Claims.{Claim, claims_with}
+use Rattle.attempt_table.specs.Claims.{Claim}
 use Rattle.attempt_table.proofs.Claimed.{put_place, put_is}
-use Rattle.attempt_table.proofs.attempts.claim.Goals as goal
+use Rattle.attempt_table.proofs.claims.claim.Goals as goal
 
 pub returns : goal.returns
 returns c =

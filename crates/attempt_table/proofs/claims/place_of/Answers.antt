@@ -4,7 +4,7 @@ use Rattle.std.specs.List.{position}
 use Rattle.std.proofs.lemmas.Iterator.{YieldsList-from_slice}
 use Rattle.std.proofs.lemmas.Iterator.Search.{position_from_yields_List}
 use Rattle.attempt_table.specs.Claims.{Claim}
-use Rattle.attempt_table.proofs.attempts.place_of.Goals as goal
+use Rattle.attempt_table.proofs.claims.place_of.Goals as goal
 
 pub returns : goal.returns
 returns c =
