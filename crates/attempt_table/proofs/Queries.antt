@@ -1,8 +1,8 @@
 -- What the table's queries come to by the journal.
 use Rattle.std.proofs.Common.{◌≡◌, ℕ, zero, suc, ◌+◌, ◌<◌, ◌≤◌, ◌==◌, Bool, true, false, not, ◌&&◌, ◌||◌, cond, List, [], ◌∷◌, ◌++◌, Option, Some, None, length, refl, sym, ap, ◌∙◌, subst, arith, inl, inr}
 use Rattle.std.specs.Prelude.{is_some, option_map, pred, nat_lt, nat_le, slice_get, replicate}
-use Rattle.std.specs.List.{list_any}
-use Rattle.std.proofs.lemmas.Bool.{cases_Bool, cases_eq, eqb-true, lt-ltb, ltb-true}
+use Rattle.std.specs.List.{list_any, list_all}
+use Rattle.std.proofs.lemmas.Bool.{ltb-false, or_parts, eq-eqb, cases_Bool, cases_eq, eqb-true, lt-ltb, ltb-true}
 use Rattle.mid_base.specs.declared.names.Attempt.{Attempt}
 use Rattle.mid_base.specs.declared.answers.Answer.{Answer}
 use Rattle.mid_base.specs.declared.answers.By.TheVariants.{Answer as ByAnswer, Expiry as ByExpiry}
@@ -16,7 +16,7 @@ use Rattle.mid_base.specs.Past.{ticks}
 use Rattle.trace_model.specs.Attempts.{attempts, is_open, is_answered, answer, answered, late, is_due, is_said_done}
 use Rattle.trace_model.specs.Flush.{is_empty}
 use Rattle.trace_model.specs.Steps.{state_by, sent_with, tags_from, claims_of, claims_among}
-use Rattle.trace_model.specs.Time.{deadline, is_expired}
+use Rattle.trace_model.specs.Time.{deadline, is_expired, is_claimed, may_tick}
 use Rattle.attempt_table.specs.declared.rows.Phase.{Phase}
 use Rattle.attempt_table.specs.declared.rows.Phase.TheVariants.{Open, Answered, Owned, Settled, Bounced}
 use Rattle.attempt_table.specs.declared.rows.Row.{Row}
@@ -270,3 +270,38 @@ module _ (s : HostSpec) (P : List Entry) (table : List Row) (shown : List TagSta
           let row = by_row now (row_of m.0 table) over.2 here in
           let within = row_within table m.0 row.1 row.2 in
           number_at (λ n. open_by now (row_of n table)) (length table) m.0 within.0 within.1 row.0
+
+-- when time may go on
+any_weaker : {A : Type 0} (f g : A → Bool) (xs : List A) → ((x : A) → f x ≡ false → g x ≡ false) → list_any f xs ≡ false → list_any g xs ≡ false
+any_weaker f g [] weaker h = refl
+any_weaker f g (x ∷ xs) weaker h = let parts = or_parts (f x) (list_any f xs) h in rw (weaker x parts.0, any_weaker f g xs weaker parts.1) refl
+
+all_where_none : {A : Type 0} (f g : A → Bool) (xs : List A) → ((x : A) → f x ≡ false → g x ≡ true) → list_any f xs ≡ false → list_all g xs ≡ true
+all_where_none f g [] weaker h = refl
+all_where_none f g (x ∷ xs) weaker h = let parts = or_parts (f x) (list_any f xs) h in rw (weaker x parts.0, all_where_none f g xs weaker parts.1) refl
+
+pub may_tick_where : (s : HostSpec) (P : List Entry) → ((n : ℕ) → is_due n P ≡ false)
+    → list_any (λ n. is_open n P && is_answered n P) (attempts P) ≡ false
+    → list_any (λ n. nat_lt 0 (late n P)) (answered P) ≡ false
+    → list_any (λ n. is_expired s P n || (is_open n P && is_due n P)) (attempts P) ≡ false
+    → may_tick s P ≡ true
+may_tick_where s P undue unclaimed none_late none_expired =
+    let a : list_any (is_claimed P) (attempts P) ≡ false =
+    any_weaker (λ n. is_open n P && is_answered n P) (is_claimed P) (attempts P) (λ n h. answered_alone (is_open n P) (is_answered n P) (is_due n P) (undue n) h) unclaimed
+    in
+    let b : list_all (λ n. late n P == 0) (answered P) ≡ true =
+    all_where_none (λ n. nat_lt 0 (late n P)) (λ n. late n P == 0) (answered P)
+    (λ n h. let none : late n P ≤ 0 = ltb-false 0 (late n P) h in eq-eqb (late n P) 0 (omega (arith, none))) none_late
+    in
+    let c : list_any (is_expired s P) (attempts P) ≡ false =
+    any_weaker (λ n. is_expired s P n || (is_open n P && is_due n P)) (is_expired s P) (attempts P) (λ n h. (or_parts (is_expired s P n) (is_open n P && is_due n P) h).0) none_expired
+    in
+    three _ _ _ a b c
+  where
+    answered_alone : (o t d : Bool) → d ≡ false → o && t ≡ false → o && (t || d) ≡ false
+    answered_alone false t d h k = refl
+    answered_alone true false d h k = h
+    answered_alone true true d h k = k
+
+    three : (p q r : Bool) → p ≡ false → q ≡ true → r ≡ false → not p && q && not r ≡ true
+    three p q r h e f = rw (h, e, f) refl

@@ -1,4 +1,5 @@
-ghost use Rattle.std.specs.Prelude.{◌≡◌, ◌≢◌, ℕ, Bool, true, List, ◌∷◌, Some, slice_get};
+ghost use Rattle.std.specs.Prelude.{◌≡◌, ◌≢◌, ℕ, Bool, true, false, ◌&&◌, ◌||◌, List, ◌∷◌, Some, slice_get, nat_lt};
+ghost use Rattle.std.specs.List.{list_any};
 ghost use Rattle.mid_base.specs.declared.answers.TagState.{TagState};
 ghost use Rattle.mid_base.specs.declared.answers.TagState.TheVariants.{Free};
 ghost use Rattle.mid_base.specs.declared.entries.Entry.{Entry};
@@ -6,6 +7,8 @@ ghost use Rattle.mid_base.specs.declared.entries.Entry.TheVariants.{Failed};
 ghost use Rattle.mid_base.specs.declared.host_spec.HostSpec.{HostSpec};
 ghost use Rattle.mid_base.specs.declared.names.Attempt.{Attempt};
 ghost use Rattle.mid_base.specs.declared.names.CmdId.{CmdId};
+ghost use Rattle.trace_model.specs.Attempts.{attempts, is_open, is_answered, is_due, answered, late};
+ghost use Rattle.trace_model.specs.Time.{is_expired, may_tick};
 ghost use Rattle.attempt_table.specs.declared.attempts.Attempts.{Attempts};
 ghost use Rattle.attempt_table.specs.Rows.{row_of, settled_in, live_in, tag_in, shown_in};
 ghost use Rattle.attempt_table.specs.Tells.{Tells, IsApart};
@@ -28,4 +31,9 @@ pub fn a_held_tag_has_its_attempt()
 /// The tag of an attempt under way says which attempt holds it, and whether that one is owned.
 pub fn an_attempt_under_way_holds_its_tag()
     ensures { (s : HostSpec) (P : List Entry) (t : Attempts) → Tells s P t → (n : ℕ) → live_in (row_of n t.rows.items) ≡ true → slice_get t.tags.items (tag_in (row_of n t.rows.items)).0 ≡ Some (shown_in n (row_of n t.rows.items)) }
+{}
+
+/// Time may go on where no attempt waits for its owner, no answer is to be ignored and no open attempt's time is up.
+pub fn time_goes_on_where_nothing_waits()
+    ensures { (s : HostSpec) (P : List Entry) (t : Attempts) → Tells s P t → list_any (λ n. is_open n P && is_answered n P) (attempts P) ≡ false → list_any (λ n. nat_lt 0 (late n P)) (answered P) ≡ false → list_any (λ n. is_expired s P n || (is_open n P && is_due n P)) (attempts P) ≡ false → may_tick s P ≡ true }
 {}

@@ -16,6 +16,6 @@ mod tests;
 pub use attempts::Attempts;
 pub use laws::{
     a_held_tag_has_its_attempt, a_settled_attempt_may_fail, an_attempt_under_way_holds_its_tag,
-    other_entries_change_no_attempt,
+    other_entries_change_no_attempt, time_goes_on_where_nothing_waits,
 };
 pub use rows::{Phase, Row};
