@@ -1,0 +1,10 @@
+pub mod Bools
+pub mod Places
+pub mod Shown
+pub mod Claimed
+pub mod Numbers
+pub mod Changes
+pub mod Entries
+pub mod Sending
+pub mod Queries
+pub mod Told

@@ -1,0 +1,11 @@
+use Rattle.std.proofs.Common.{◌≡◌, ℕ, replicate, ap, ◌∙◌, arith}
+use Rattle.mid_base.specs.declared.answers.TagState.{TagState}
+use Rattle.mid_base.specs.declared.answers.TagState.TheVariants.{Free}
+use Rattle.attempt_table.proofs.Queries.{says_nothing}
+use Rattle.attempt_table.proofs.attempts.Attempts.new.Goals as goal
+
+pub returns : goal.returns
+returns c = λ s same.
+    let ended : c.loop-i.i ≡ s.can_queue = omega (arith, same) in
+    rw (c.new.ensures.items, c.new-2.ensures.items, c.new-3.ensures.items)
+    (says_nothing s c.loop-i.tags.items (c.loop-i.invariant ∙ ap (λ (n : ℕ). replicate {A = TagState} n Free) ended))
