@@ -52,7 +52,7 @@ pub at_most : (n : ℕ) (b : List ℕ) → length (take n b) ≤ n
 at_most n b = omega (arith, length-take n b)
 
 -- the first bytes, as many as there is room for, as a CDB and as sense data
-abbrev pub cdb_of : List ℕ → CdbBytes
+unfoldable pub cdb_of : List ℕ → CdbBytes
 cdb_of b =
     record {
       len = length (take 16 b);
@@ -60,7 +60,7 @@ cdb_of b =
       padded = padded_made 16 (take 16 b) (drop (length (take 16 b)) (replicate 16 0)) (at_most 16 b) refl;
     }
 
-abbrev pub sense_of : List ℕ → SenseBytes
+unfoldable pub sense_of : List ℕ → SenseBytes
 sense_of b =
     record {
       len = length (take 252 b);
