@@ -1,5 +1,5 @@
 -- What is wrong with a word at its place, and how the functions over words answer that.
-use Rattle.std.specs.Prelude.{◌≡◌, ℕ, Bool, true, false, nat_le, List, Vec, length, Option, Some, None, is_some, Result, Ok, Err}
+use Rattle.std.specs.Prelude.{◌≡◌, ℕ, Bool, true, false, List, Vec, length, Option, Some, None, is_some, Result, Ok, Err}
 use Rattle.std.specs.Str.{bytes_eq}
 use Rattle.std.specs.declared.alloc.Global.{Global}
 use denote.Bor.{Bor}
@@ -41,7 +41,7 @@ abbrev pub address_fault : List ℕ → Option Kind
 address_fault word = form_and_range kinds.Number is_address (address word)
 
 abbrev pub bytes_fault : ℕ → List ℕ → Option Kind
-bytes_fault most word = form_and_range kinds.Hex (λ b. nat_le (length b) most) (hex_bytes word)
+bytes_fault most word = form_and_range kinds.Hex (λ b. is_between 1 most (length b)) (hex_bytes word)
 
 -- a word that is read as one of a few, or not at all
 abbrev pub choice_fault : {V : Type 0} → Kind → (List ℕ → Option V) → List ℕ → Option Kind

@@ -16,7 +16,7 @@ pub fn bytes_in(alloc: Global, word: Option<&[u8]>, most: usize) -> Result<Vec<u
         Err(_) => Err(LineFault::Memory),
         Ok(None) => Err(LineFault::Bad(Kind::Hex)),
         Ok(Some(bytes)) => {
-            if bytes.len() <= most {
+            if 1 <= bytes.len() && bytes.len() <= most {
                 Ok(bytes)
             } else {
                 Err(LineFault::Bad(Kind::Limit))
