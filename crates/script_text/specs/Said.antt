@@ -10,7 +10,7 @@ use Rattle.mid_base.specs.declared.host_spec.CmdSpec.{CmdSpec}
 use Rattle.mid_base.specs.declared.host_spec.HostSpec.{HostSpec}
 use Rattle.mid_base.specs.declared.steps.Step.{Step}
 
--- `line` is the number of the line that comes next; `ids` are those of all commands, in ascending order
+-- `line` is the number of the present line; `ids` are those of all commands, in ascending order
 pub record Said : Type 0 where
   pub line : ℕ
   pub hosts : List HostSpec
@@ -21,7 +21,7 @@ pub record Said : Type 0 where
   pub ended : Bool
 
 abbrev pub nothing : Said
-nothing = record { line = 1; hosts = []; ids = []; plans = 0; steps = []; budget = None; ended = false }
+nothing = record { line = 0; hosts = []; ids = []; plans = 0; steps = []; budget = None; ended = false }
 
 -- there is a value, and it passes
 abbrev pub passes : {V : Type 0} → (V → Bool) → Option V → Bool

@@ -56,28 +56,28 @@ unfoldable pub judge : Said → List (List ℕ) → Result Said Kind
 judge said [] = Ok said
 judge said (word ∷ rest) = if is_remark word then Ok said else judge_rest said rest (keyword word)
 
--- the lines end
-abbrev pub whole : Said → Result Script Bad
-whole said =
+-- the lines end before line n
+abbrev pub whole : ℕ → Said → Result Script Bad
+whole n said =
     if said.ended then Ok (record { hosts = said.hosts; scans = []; steps = said.steps; budget = said.budget; drain = false })
-    else Err (bad said.line kinds.NoEnd)
+    else Err (bad n kinds.NoEnd)
 
-abbrev pub next_line : Said → Said
-next_line said = record said { line = said.line + 1 }
+abbrev pub at_line : ℕ → Said → Said
+at_line n said = record said { line = n }
 
 -- the first bad line counts
 abbrev pub after_line : ℕ → (Said → Result Script Bad) → Result Said Kind → Result Script Bad
 after_line n go_on (Ok said) = go_on said
 after_line n go_on (Err kind) = Err (bad n kind)
 
--- the lines that are left; where the text is cut, the last one is too long
-unfoldable pub judge_lines : Bool → Said → List (List ℕ) → Result Script Bad
-judge_lines is_cut said [] = whole said
-judge_lines is_cut said (line ∷ rest) =
-    if is_cut && is_last rest then Err (bad said.line kinds.Limit)
-    else after_line said.line (λ s. judge_lines is_cut (next_line s) rest) (judge said (words line))
+-- the lines from number n on; where the text is cut, the last one is too long
+unfoldable pub judge_lines : Bool → ℕ → Said → List (List ℕ) → Result Script Bad
+judge_lines is_cut n said [] = whole n said
+judge_lines is_cut n said (line ∷ rest) =
+    if is_cut && is_last rest then Err (bad n kinds.Limit)
+    else after_line n (λ s. judge_lines is_cut (n + 1) s rest) (judge (at_line n said) (words line))
 
 -- What a script says, or the line and kind of its first bad line. The line that has byte 16,777,217 is bad whatever its
 -- words are, so no byte behind that one matters.
 unfoldable pub script_of : List ℕ → Result Script Bad
-script_of text = judge_lines (nat_lt 16777216 (length text)) nothing (lines (counted text))
+script_of text = judge_lines (nat_lt 16777216 (length text)) 1 nothing (lines (counted text))

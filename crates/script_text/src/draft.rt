@@ -12,7 +12,7 @@ use script_words::{Keyword, Kind};
 use std::alloc::Global;
 use std::collections::BTreeSet;
 
-/// What the lines so far say, and the number of the line that comes next.
+/// What the lines so far say, and the number of the present line.
 #[derive(Drop)]
 pub struct Draft {
     pub alloc: Global,
@@ -31,7 +31,7 @@ impl Draft {
     {
         Draft {
             alloc,
-            line: 1,
+            line: 0,
             hosts: Vec::new(alloc),
             ids: BTreeSet::new(alloc),
             plans: 0,
