@@ -31,11 +31,10 @@ use Rattle.script_words.specs.Keywords.{keyword, is_remark, plan_kind, failfast}
 use Rattle.script_words.specs.Faults.{unless_true, number_fault}
 use Rattle.script_text.specs.declared.script.Script.{Script}
 use Rattle.script_text.specs.declared.script.Bad.{Bad}
-use Rattle.script_text.specs.Fed.{counted}
 use Rattle.script_text.specs.Said.{Said, nothing, passes, host_of, is_unit, is_id, with_unit, with_planned, with_command, on_host}
 use Rattle.script_text.specs.Slots.{slots, some_fault_slots, or_else, first_fault, is_read_only, is_stopped}
 use Rattle.script_text.specs.Adds.{adds, step_in, fault_of, some_fault_of, is_more, fill_of}
-use Rattle.script_text.specs.Script.{is_again, is_full, keyword_fault, unless, judge_slots, after_keyword, judge_rest, judge, whole, at_line, after_line, judge_lines, script_of}
+use Rattle.script_text.specs.Script.{is_again, is_full, keyword_fault, unless, judge_slots, after_keyword, judge_rest, judge, whole, at_line, after_line, counted, judge_lines, script_of}
 use Rattle.script_text.specs.Playable.{IsStepOn, IsStepOnSome, IsStepOf, differ_in_number, IsPlayable}
 use Rattle.script_text.proofs.Grown.{any_kept, numbers_more, true_not}
 use Rattle.script_text.proofs.Ids.{one_more_id}

@@ -1,11 +1,12 @@
 -- What the functions of the reader answer, in the words of the definitions.
-use Rattle.std.specs.Prelude.{◌≡◌, ℕ, Bool, false, ◌||◌, List, [], ◌∷◌, Option, Some, None, Result, Ok, Err}
+use Rattle.std.specs.Prelude.{◌≡◌, ℕ, ◌+◌, Bool, false, ◌||◌, List, [], ◌∷◌, Option, Some, None, Result, Ok, Err}
 use Rattle.std.specs.List.{list_any}
 use denote.Bor.{Bor}
 use Rattle.mid_base.specs.declared.names.DevAddr.{DevAddr}
 use Rattle.mid_base.specs.declared.host_spec.HostSpec.{HostSpec}
 use Rattle.mid_base.specs.declared.faults.Fault.{Fault}
 use Rattle.mid_base.specs.declared.steps.Step.{Step}
+use Rattle.mid_base.specs.declared.answers.NoMemory.{NoMemory}
 use Rattle.script_words.specs.declared.kind.Kind.{Kind}
 use Rattle.script_words.specs.declared.kind.Kind.TheVariants.{Missing, Extra}
 use Rattle.script_words.specs.declared.kind.LineFault.{LineFault}
@@ -16,7 +17,11 @@ use Rattle.mid_base.specs.declared.faults.Fault.TheVariants as made
 use Rattle.script_words.specs.Pieces.{value}
 use Rattle.script_text.specs.declared.draft.Draft.{Draft}
 use Rattle.script_text.specs.declared.ends.UnitFlags.{UnitFlags}
+use Rattle.script_words.specs.Pieces.{words}
+use Rattle.script_text.specs.declared.script.Script.{Script}
+use Rattle.script_text.specs.declared.script.Bad.{Bad}
 use Rattle.script_text.specs.Said.{Said, host_of}
+use Rattle.script_text.specs.Script.{judge, at_line, after_line}
 use Rattle.script_text.specs.Slots.{Slot, AnyStep, slot_fault, first_fault, fault_slots, unit_flag_fault, is_read_only, is_stopped}
 use Rattle.script_text.specs.Slots as slots
 use Rattle.script_text.specs.Adds.{step_in, fault_of}
@@ -81,3 +86,14 @@ CodesGive said host words (Err kind) = first_fault said host (slots.Half ∷ slo
 abbrev pub LastGives : Fault → List (List ℕ) → Result Fault LineFault → Type 0
 LastGives fault [] result = result ≡ Ok fault
 LastGives fault (word ∷ rest) result = result ≡ Err (faults.Bad Extra)
+
+-- how the lines go on behind one that is bad or not
+abbrev pub go_on_unless : Option Bad → Result Script Bad → Result Script Bad
+go_on_unless None rest = rest
+go_on_unless (Some bad) rest = Err bad
+
+-- a line behind so many others is judged, whatever comes behind it, unless memory ran out
+abbrev pub EndsLine : Said → Said → List ℕ → ℕ → Result (Option Bad) NoMemory → Type 0
+EndsLine said new line before (Ok bad) =
+    (rest : Said → Result Script Bad) → after_line (before + 1) rest (judge (at_line (before + 1) said) (words line)) ≡ go_on_unless bad (rest new)
+EndsLine said new line before (Err none) = Unit {0}

@@ -1,8 +1,9 @@
 pub mod Said
 pub mod Slots
 pub mod Adds
-pub mod Fed
 pub mod Script
+pub mod Part
+pub mod Told
 pub mod Gives
 pub mod Reads
 pub mod Playable

@@ -1,5 +1,5 @@
 -- What a whole script says, or its first bad line.
-use Rattle.std.specs.Prelude.{ℕ, ◌+◌, nat_lt, nat_le, Bool, true, false, not, ◌&&◌, if◌then◌else◌, List, [], ◌∷◌, length, Option, Some, None, is_some, Result, Ok, Err}
+use Rattle.std.specs.Prelude.{ℕ, ◌+◌, nat_lt, nat_le, Bool, true, false, not, ◌&&◌, if◌then◌else◌, List, [], ◌∷◌, length, take, Option, Some, None, is_some, Result, Ok, Err}
 use Rattle.script_words.specs.declared.keywords.Keyword.{Keyword}
 use Rattle.script_words.specs.declared.keywords.Keyword.TheVariants as keys
 use Rattle.script_words.specs.declared.kind.Kind.{Kind}
@@ -9,7 +9,6 @@ use Rattle.script_words.specs.Keywords.{keyword, is_remark}
 use Rattle.script_words.specs.Faults.{kind_number, unless_true}
 use Rattle.script_text.specs.declared.script.Script.{Script}
 use Rattle.script_text.specs.declared.script.Bad.{Bad}
-use Rattle.script_text.specs.Fed.{counted}
 use Rattle.script_text.specs.Said.{Said, nothing}
 use Rattle.script_text.specs.Slots.{slots, or_else, first_fault}
 use Rattle.script_text.specs.Adds.{adds}
@@ -76,6 +75,10 @@ judge_lines is_cut n said [] = whole n said
 judge_lines is_cut n said (line ∷ rest) =
     if is_cut && is_last rest then Err (bad n kinds.Limit)
     else after_line n (λ s. judge_lines is_cut (n + 1) s rest) (judge (at_line n said) (words line))
+
+-- what counts of a text: all bytes up to number 16,777,217, whose line is bad
+abbrev pub counted : List ℕ → List ℕ
+counted text = take 16777217 text
 
 -- What a script says, or the line and kind of its first bad line. The line that has byte 16,777,217 is bad whatever its
 -- words are, so no byte behind that one matters.

@@ -1,26 +1,26 @@
-ghost use Rattle.std.specs.Prelude.{◌≡◌, ◌≤◌, length, IfOk};
-ghost use Rattle.script_text.specs.Script.{bad, whole};
-ghost use Rattle.script_text.specs.Gives.{seen};
-ghost use Rattle.script_text.specs.Reads.{Answers, Reads};
+ghost use Rattle.std.specs.Prelude.{◌≡◌, ◌+◌, ◌^◌, ◌<◌, not, true, false, IfOk};
+ghost use Rattle.std.specs.List.{list_all};
+ghost use Rattle.script_words.specs.Pieces.{lines, is_newline};
+ghost use Rattle.script_text.specs.Script.{bad, whole, judge_lines};
+ghost use Rattle.script_text.specs.Gives.{seen, EndsLine};
+ghost use Rattle.script_text.specs.Reads.{Answers};
 
 use crate::draft::Draft;
 use crate::host_draft::HostDraft;
 use crate::line::take_line;
 use crate::script::{Bad, ReadEnd, Script};
 use mid_base::{HostSpec, NoMemory, Rows};
-use script_words::{Kind, LineFault, Lines};
+use script_words::{Kind, LineFault};
 use std::alloc::Global;
 
-/// The longest script, in bytes.
-pub const LONGEST: usize = 16_777_216;
-
-fn bad(line: u64, kind: Kind) -> ReadEnd
-    ensures { result ≡ ReadEnd.Bad (bad line kind) }
+/// This line is the first bad one.
+pub fn bad(line: u64, kind: Kind) -> Bad
+    ensures { result ≡ bad line kind }
 {
-    ReadEnd::Bad(Bad {
+    Bad {
         line,
         kind: kind.number(),
-    })
+    }
 }
 
 /// The specs of these hosts.
@@ -49,7 +49,7 @@ fn whole(draft: Draft, line: u64) -> Result<Script, ReadEnd>
         ..
     } = draft;
     if !ended {
-        return Err(bad(line, Kind::NoEnd));
+        return Err(ReadEnd::Bad(bad(line, Kind::NoEnd)));
     }
     match specs_of(alloc, hosts) {
         Err(_) => Err(ReadEnd::NoMemory),
@@ -63,27 +63,33 @@ fn whole(draft: Draft, line: u64) -> Result<Script, ReadEnd>
     }
 }
 
-/// Reads a text, of which no byte behind number 16,777,217 is given.
-#[tactic(auto, using(script_words::proofs::Cuts::lines_few, crate::proofs::Counted::judged_whole), unfolding(crate::specs::Script::judge_lines))]
-pub fn read(alloc: Global, text: &[u8]) -> Result<Script, ReadEnd>
-    requires { length text.now ≤ 16777217 }
-    ensures { Reads text.now result }
+/// Adds what this line says, which comes behind `before` others. If it is bad, that is the answer.
+pub fn end_line(draft: &mut Draft, line: &[u8], before: u64) -> Result<Option<Bad>, NoMemory>
+    requires { before < 2 ^ 32 }
+    ensures { EndsLine (seen draft.old) (seen draft.new) line.now before result }
 {
-    let is_cut = text.len() > LONGEST;
-    let mut draft = Draft::new(alloc);
-    let mut lines = Lines { rest: text };
-    let mut before: u64 = 0;
-    while let Some(line) = lines.next() {
-        if is_cut && lines.is_over() {
-            return Err(bad(before + 1, Kind::Limit));
-        }
-        draft.line = before + 1;
-        match take_line(&mut draft, line) {
-            Ok(()) => {}
-            Err(LineFault::Bad(kind)) => return Err(bad(before + 1, kind)),
-            Err(LineFault::Memory) => return Err(ReadEnd::NoMemory),
-        }
-        before += 1;
+    draft.line = before + 1;
+    match take_line(draft, line) {
+        Ok(()) => Ok(None),
+        Err(LineFault::Bad(kind)) => Ok(Some(bad(before + 1, kind))),
+        Err(LineFault::Memory) => Err(NoMemory),
     }
-    whole(draft, before + 1)
+}
+
+/// The script that ends with this part of a line, without a newline. It comes behind `before` lines.
+#[tactic(auto, using(crate::proofs::Telling::last_is, crate::proofs::Telling::no_lines), unfolding(crate::specs::Script::judge_lines))]
+pub fn last_line(draft: Draft, part: &[u8], before: u64) -> Result<Script, ReadEnd>
+    requires small { before < 2 ^ 32 }
+    requires inside { list_all (λ b. not (is_newline b)) part.now ≡ true }
+    ensures { Answers (judge_lines false (before + 1) (seen draft) (lines part.now)) result }
+{
+    if part.is_empty() {
+        return whole(draft, before + 1);
+    }
+    let mut draft = draft;
+    match end_line(&mut draft, part, before) {
+        Err(_) => Err(ReadEnd::NoMemory),
+        Ok(Some(bad)) => Err(ReadEnd::Bad(bad)),
+        Ok(None) => whole(draft, before + 2),
+    }
 }

@@ -1,11 +1,10 @@
--- How the first line, and the first part, is cut off.
+-- How the first word, and the first part, is cut off.
 use Rattle.std.proofs.Common.{◌≡◌, ◌==◌, ℕ, zero, suc, ◌+◌, ◌<◌, ◌≤◌, Bool, true, false, not, cond, List, [], ◌∷◌, length, take, drop, take_while, filter, refl, sym, ap, ◌∙◌, arith, inl, inr, add-one, one-add, length-take}
 use Rattle.std.specs.List.{prefix_len, onto_first, slice_split, position_or_len}
 use Rattle.std.proofs.lemmas.List.Sums.{prefix_len-le-length}
 use Rattle.std.proofs.lemmas.List.Splits.{slice_split_first}
 use Rattle.std.proofs.lemmas.Bool.{cases_Bool}
-use Rattle.std.proofs.lemmas.Bool.Decides.{nat_tests}
-use Rattle.script_words.specs.Pieces.{pieces, is_newline, is_blank, is_nonempty, lines, words, parts, is_last}
+use Rattle.script_words.specs.Pieces.{pieces, is_blank, is_nonempty, words, parts}
 
 -- how many bytes come before the first that ends a piece
 abbrev pub front : (ℕ → Bool) → List ℕ → ℕ
@@ -34,12 +33,6 @@ drop_suc zero [] = refl
 drop_suc zero (b ∷ bs) = refl
 drop_suc (suc n) [] = refl
 drop_suc (suc n) (b ∷ bs) = drop_suc n bs
-
-pub lines_cut : (s : List ℕ) (n : ℕ) → 0 < length s → n ≡ length (take_while (λ b. not (is_newline b)) s) → lines s ≡ take n s ∷ lines (drop 1 (drop n s))
-unfolding lines
-lines_cut [] n some e = absurd (omega arith)
-lines_cut (b ∷ bs) n some e =
-    let k = e ∙ len_is is_newline (b ∷ bs) in rw (drop_suc n (b ∷ bs), k) (pieces_cut is_newline b bs)
 
 pub parts_cut : (c : ℕ) (s : List ℕ) (n : ℕ) → n ≡ length (take_while (λ b. not (b == c)) s) → n < length s → parts c s ≡ take n s ∷ parts c (drop 1 (drop n s))
 unfolding parts
@@ -113,27 +106,3 @@ words_end s k e f =
     let a = e ∙ lead_len is_blank s in
     let none : front is_blank (drop (lead is_blank s) s) ≡ 0 = rw (← a) (sym (f ∙ len_is is_blank (drop k s))) in
     full_lead is_blank s ∙ ap words (lead_stops is_blank s none)
-
-front_few : (b : ℕ) (ps : List (List ℕ)) (bs : List ℕ) → length ps ≤ length bs → length (onto_first b ps) ≤ length (b ∷ bs)
-front_few b [] bs h = omega arith
-front_few b (p ∷ ps) bs h = omega arith
-
-pieces_few : (ends : ℕ → Bool) (s : List ℕ) → length (pieces ends s) ≤ length s
-pieces_few ends [] = omega arith
-pieces_few ends (b ∷ bs) = elim (cases_Bool (ends b)) [ inl t ↦ rw t (omega (arith, pieces_few ends bs)) | inr f ↦ rw f (front_few b (pieces ends bs) bs (pieces_few ends bs)) ]
-
-pub lines_few : (s : List ℕ) → length (lines s) ≤ length s
-unfolding lines
-lines_few s = pieces_few is_newline s
-
-onto_is_some : (b : ℕ) (ps : List (List ℕ)) → is_last (onto_first b ps) ≡ false
-onto_is_some b [] = refl
-onto_is_some b (p ∷ ps) = refl
-
--- a text without lines is empty
-pub no_line_left : (s : List ℕ) → is_last (lines s) ≡ (length s == 0)
-unfolding lines
-no_line_left [] = refl
-no_line_left (b ∷ bs) =
-    let some : (suc (length bs) == 0) ≡ false = grind (arith, nat_tests) in
-    elim (cases_Bool (is_newline b)) [ inl t ↦ rw (t, some) refl | inr f ↦ rw (f, some) (onto_is_some b (pieces is_newline bs)) ]

@@ -1,5 +1,5 @@
 -- The bytes of a word as a CDB and as sense data.
-use Rattle.std.proofs.Common.{◌≡◌, ℕ, ◌≤◌, List, ◌++◌, length, take, drop, replicate, refl, sym, ap, ◌∙◌, arith}
+use Rattle.std.proofs.Common.{◌≡◌, ℕ, ◌≤◌, List, ◌++◌, length, take, drop, replicate, sym, ◌∙◌, arith}
 use Rattle.std.proofs.lemmas.List.{take_all, take-append-le}
 use Rattle.mid_base.specs.Bytes.{cdb_list, sense_list}
 use Rattle.mid_base.specs.declared.bytes.CdbBytes.{CdbBytes}

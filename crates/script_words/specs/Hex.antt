@@ -1,5 +1,5 @@
 -- Bytes in hexadecimal digits of either case.
-use Rattle.std.specs.Prelude.{◌≡◌, ◌≤◌, ℕ, ◌+◌, ◌-◌, ◌*◌, List, [], ◌∷◌, ◌++◌, length, take, drop, replicate, Option, Some, None, unwrap_or, ◌&&◌, nat_le, if◌then◌else◌}
+use Rattle.std.specs.Prelude.{◌≤◌, ℕ, ◌+◌, ◌-◌, ◌*◌, List, [], ◌∷◌, ◌++◌, length, take, drop, replicate, Option, Some, None, unwrap_or, ◌&&◌, nat_le, if◌then◌else◌}
 use Rattle.std.proofs.Common.{arith, refl, length-take}
 use Rattle.mid_base.specs.Padded.{padded_made}
 use Rattle.mid_base.specs.declared.bytes.CdbBytes.{CdbBytes}

@@ -1,18 +1,6 @@
 ghost use Rattle.std.specs.Prelude.{◌≡◌, ◌==◌, ◌≤◌, length, take_while, not, drop, position};
 ghost use Rattle.std.specs.Iterator.{YieldsFirstRef, item_count};
-ghost use Rattle.script_words.specs.Pieces.{lines, words, parts, parts_left, is_newline, is_blank, is_last};
-
-/// The lines that are left of a text. Each ends at a newline; the last may lack it.
-#[derive(Drop)]
-pub struct Lines<'a> {
-    pub rest: &'a [u8],
-}
-
-fn line_len(s: &[u8]) -> usize
-    ensures { result ≡ length (take_while (λ b. not (is_newline b)) s.now) }
-{
-    s.iter().take_while(|b| **b != b'\n').count()
-}
+ghost use Rattle.script_words.specs.Pieces.{words, parts, parts_left, is_blank};
 
 fn after_first(s: &[u8]) -> &[u8]
     ensures { result.now ≡ drop 1 s.now }
@@ -20,35 +8,6 @@ fn after_first(s: &[u8]) -> &[u8]
     match s {
         [_, rest @ ..] => rest,
         [] => s,
-    }
-}
-
-impl<'a> Lines<'a> {
-    /// Whether no line is left.
-    #[tactic(auto, using(crate::proofs::Cuts::no_line_left))]
-    pub fn is_over(&self) -> bool
-        ensures { result ≡ is_last (lines self.now.rest.now) }
-    {
-        self.rest.is_empty()
-    }
-}
-
-impl<'a> Iterator for Lines<'a> {
-    type Item = &'a [u8];
-
-    ghost next_gives = { YieldsFirstRef (λ s. lines s.rest.now) };
-
-    ghost remaining = { item_count (λ s. lines s.rest.now) };
-
-    #[tactic(auto, using(crate::proofs::Cuts::lines_cut), unfolding(crate::specs::Pieces::lines))]
-    fn next(&mut self) -> Option<&'a [u8]> {
-        if self.rest.is_empty() {
-            return None;
-        }
-        let n = line_len(self.rest);
-        let (line, rest) = self.rest.split_at(n);
-        self.rest = after_first(rest);
-        Some(line)
     }
 }
 
