@@ -12,7 +12,7 @@ use Rattle.mid_base.specs.Address.{same_dev, has_dev}
 use Rattle.mid_base.specs.Limits.{is_command}
 use Rattle.trace_model.specs.Names.{start_in}
 use Rattle.mid_core.specs.View.{HasOneCommand}
-use Rattle.script_text.specs.Playable.{IsPlainUnit, IsPlayableHost}
+use Rattle.first_script.specs.Playable.{IsPlainUnit, IsPlayableHost}
 
 starts_running : (luns : List LunSpec) (d : DevAddr) → has_dev luns d ≡ true → All IsPlainUnit luns → start_in luns d ≡ Running
 starts_running [] d has all = cc

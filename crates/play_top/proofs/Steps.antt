@@ -21,7 +21,7 @@ use Rattle.trace_model.specs.Legal.{onto}
 use Rattle.trace_model.proofs.Making.{onto-reverse}
 use Rattle.fixed_lower.specs.LowerRun.{good, LowerRun, IsAt, is_due_at, is_due_after}
 use Rattle.mid_core.specs.View.{IsBuiltAt}
-use Rattle.script_text.specs.Playable.{IsPlayableStep}
+use Rattle.first_script.specs.Playable.{IsPlayableStep}
 use Rattle.play_top.specs.Played.{Comes, Plays, skip_of}
 
 same_good : (a b : Answer) → a ≡ good → Some a ≡ Some b → is_good b ≡ true

@@ -4,15 +4,15 @@ use Rattle.std.specs.Prelude.{nat_lt}
 use Rattle.std.specs.Io.KnownBytes.{Consumes}
 use Rattle.std.proofs.lemmas.Bool.{lt-ltb, cases_lt}
 use Rattle.mid_io.specs.Whole.{IsFront}
-use Rattle.script_text.specs.declared.script.Script.{Script}
-use Rattle.script_text.specs.declared.script.Bad.{Bad}
-use Rattle.script_text.specs.declared.kind.Kind.{Kind}
-use Rattle.script_text.specs.Fed.{counted}
-use Rattle.script_text.specs.Pieces.{lines, words, is_last}
-use Rattle.script_text.specs.Said.{Said, nothing}
-use Rattle.script_text.specs.Script.{judge, judge_lines, after_line, script_of, bad}
-use Rattle.script_text.proofs.Counted.{counted_says_all}
-use Rattle.script_text.proofs.Cuts.{no_line_left}
+use Rattle.first_script.specs.declared.script.Script.{Script}
+use Rattle.first_script.specs.declared.script.Bad.{Bad}
+use Rattle.first_script.specs.declared.kind.Kind.{Kind}
+use Rattle.first_script.specs.Fed.{counted}
+use Rattle.first_script.specs.Pieces.{lines, words, is_last}
+use Rattle.first_script.specs.Said.{Said, nothing}
+use Rattle.first_script.specs.Script.{judge, judge_lines, after_line, script_of, bad}
+use Rattle.first_script.proofs.Counted.{counted_says_all}
+use Rattle.first_script.proofs.Cuts.{no_line_left}
 use Rattle.play_top.specs.declared.reading.Unread.{Unread}
 use Rattle.play_top.specs.declared.reading.Unread.TheVariants as unread
 use Rattle.play_top.specs.Reading.{Says, IsReadOut, ReadsScript, ScriptReads}

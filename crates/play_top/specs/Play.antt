@@ -5,8 +5,8 @@ use Rattle.mid_base.specs.declared.entries.Entry.{Entry}
 use Rattle.mid_base.specs.declared.steps.Why.{Why}
 use Rattle.mid_base.specs.declared.host_spec.HostSpec.{HostSpec}
 use Rattle.mid_io.specs.Whole.{IsCutShort}
-use Rattle.script_text.specs.declared.script.Script.{Script}
-use Rattle.script_text.specs.declared.script.Bad.{Bad}
+use Rattle.first_script.specs.declared.script.Script.{Script}
+use Rattle.first_script.specs.declared.script.Bad.{Bad}
 use Rattle.play_top.specs.Reading.{Says, IsReadOut}
 use Rattle.play_top.specs.Played.{Ran}
 use Rattle.play_top.specs.Texts.{played_text, bad_text}

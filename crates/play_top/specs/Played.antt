@@ -10,8 +10,8 @@ use Rattle.trace_model.specs.Legal.{onto}
 use Rattle.trace_model.specs.Steps.{barred}
 use Rattle.fixed_lower.specs.LowerRun.{LowerRun, is_due_after}
 use Rattle.mid_core.specs.Steps.{AddsTo}
-use Rattle.script_text.specs.Playable.{IsPlayableStep}
-use Rattle.script_text.specs.declared.script.Script.{Script}
+use Rattle.first_script.specs.Playable.{IsPlayableStep}
+use Rattle.first_script.specs.declared.script.Script.{Script}
 
 -- Q comes from P by a step: it adds a group that begins with an opener of the step, or the step is skipped by its first
 -- condition that fails, and then nothing has changed

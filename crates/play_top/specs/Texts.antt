@@ -5,7 +5,7 @@ use Rattle.mid_base.specs.declared.entries.Entry.{Entry}
 use Rattle.mid_base.specs.declared.steps.Why.{Why}
 use Rattle.mid_base.specs.declared.host_spec.HostSpec.{HostSpec}
 use Rattle.report_text.specs.Text.{text}
-use Rattle.script_text.specs.declared.script.Bad.{Bad}
+use Rattle.first_script.specs.declared.script.Bad.{Bad}
 
 -- the text of one host's journal and the skipped step lines
 abbrev pub played_text : HostSpec → List Entry → List (ℕ × Why) → List ℕ

@@ -1,11 +1,11 @@
 ghost use Rattle.std.specs.Prelude.{◌≡◌, [], ◌∷◌, ◌++◌, length, reverse, IfOk, OnOk};
-ghost use Rattle.script_text.specs.Playable.{IsPlayable, IsPlayableStep};
+ghost use Rattle.first_script.specs.Playable.{IsPlayable, IsPlayableStep};
 ghost use Rattle.play_top.specs.Played.{ArePlayable, Comes, Plays, Ran, skip_of};
 
 use fixed_lower::FixedLower;
 use mid_base::{Did, HostNo, HostSpec, NoMemory, Rows, Step, Why};
 use mid_core::Core;
-use script_text::Script;
+use first_script::Script;
 use std::alloc::Global;
 
 /// A host after its steps, and the step lines that were skipped: their numbers, and why.

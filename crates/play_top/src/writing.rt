@@ -5,7 +5,7 @@ ghost use Rattle.play_top.specs.Texts.{bad_text, played_text};
 use crate::playing::Played;
 use mid_io::{Sink, write_all};
 use report_text::{WriteEnd, write_host, write_skips};
-use script_text::Bad;
+use first_script::Bad;
 use std::alloc::{AllocError, Global};
 
 /// Writes the journal of a host with the results of its commands, and the step lines that were skipped.

@@ -1,89 +1,121 @@
 -- What the words of a line without a fault are like, each at its place.
-use Rattle.std.proofs.Common.{◌≡◌, ℕ, ◌<◌, ◌≤◌, lit<, Bool, true, false, List, [], ◌∷◌, Option, Some, None, unwrap_or, refl, arith}
+use Rattle.std.proofs.Common.{◌≡◌, ℕ, ◌<◌, ◌≤◌, lit<, Bool, true, false, not, List, [], ◌∷◌, Option, Some, None, unwrap_or, refl, sym, ◌∙◌, arith}
 use Rattle.std.proofs.lemmas.Bool.{leb-true, and_parts}
-use Rattle.std.specs.Prelude.{◌^◌, ◌-◌, nat_le, is_some}
+use Rattle.std.specs.Prelude.{◌^◌, ◌-◌, nat_le, nat_lt, length, is_some}
 use Rattle.mid_base.specs.Limits.{is_between, is_address}
-use Rattle.script_text.specs.declared.kind.Kind.{Kind}
-use Rattle.script_text.specs.declared.words.StepName.{StepName}
-use Rattle.script_text.specs.declared.words.StepName.TheVariants as names
-use Rattle.script_text.specs.Pieces.{number, value}
-use Rattle.script_text.specs.Words.{address}
-use Rattle.script_text.specs.Said.{Said, passes, is_host, is_unit}
-use Rattle.script_text.specs.Slots.{Slot, AnyStep, KnownHost, KnownUnit, unless_true, or_else, number_fault, address_fault, slot_fault, behind, step_slots, first_fault}
-use Rattle.script_text.specs.Words.{address_value}
-use Rattle.script_text.specs.Keywords.{step_name}
+use Rattle.mid_base.specs.declared.host_spec.HostSpec.{HostSpec}
+use Rattle.script_words.specs.declared.kind.Kind.{Kind}
+use Rattle.script_words.specs.declared.kind.Kind.TheVariants as kinds
+use Rattle.script_words.specs.declared.keywords.StepName.{StepName}
+use Rattle.script_words.specs.declared.keywords.StepName.TheVariants as names
+use Rattle.script_words.specs.Pieces.{number, value}
+use Rattle.script_words.specs.Words.{address, address_value}
+use Rattle.script_words.specs.Keywords.{step_name}
+use Rattle.script_words.specs.Faults.{unless_true, form_and_range, number_fault, address_fault}
+use Rattle.script_text.specs.Said.{Said, passes, host_of, is_unit, is_lane, is_id}
+use Rattle.script_text.specs.Slots.{Slot, AnyStep, or_else, host_fault, new_host_fault, roomy_host_fault, new_unit_fault, unit_fault, new_command_fault, lane_fault, slot_fault, named, behind, end_fault, first_fault, step_slots}
 use Rattle.script_text.specs.Adds.{step_of, step_in}
-use Rattle.script_text.specs.Playable.{IsPlayableStep}
+use Rattle.script_text.specs.Playable.{IsStepOn, IsStepOnSome}
+use Rattle.script_text.proofs.Grown.{true_not}
 
-pub none_unless : (b : Bool) → unless_true b ≡ None → b ≡ true
-none_unless true e = refl
-none_unless false e = absurd (cc)
+pub none_unless : (kind : Kind) (b : Bool) → unless_true kind b ≡ None → b ≡ true
+none_unless kind true e = refl
+none_unless kind false e = absurd (cc)
 
 pub none_of_both : (a b : Option Kind) → or_else a b ≡ None → (a ≡ None) × (b ≡ None)
 none_of_both None b e = (refl, e)
 none_of_both (Some k) b e = absurd (cc)
 
-pub passed : {V : Type 0} (test : V → Bool) (o : Option V) (d : V) → unless_true (passes test o) ≡ None → test (unwrap_or o d) ≡ true
-passed test None d e = absurd (cc)
-passed test (Some v) d e = none_unless (test v) e
+passed : {V : Type 0} (form : Kind) (test : V → Bool) (o : Option V) (d : V) → form_and_range form test o ≡ None → test (unwrap_or o d) ≡ true
+passed form test None d e = absurd (cc)
+passed form test (Some v) d e = none_unless kinds.Limit (test v) e
 
--- as many words as places, and none of them wrong
-abbrev pub Fits : Said → List Slot → List (List ℕ) → Type 0
-Fits said [] [] = Unit {0}
-Fits said [] (word ∷ rest) = ⊥
-Fits said (slot ∷ slots) [] = ⊥
-Fits said (slot ∷ slots) (word ∷ rest) = (slot_fault said slot word ≡ None) × Fits said (behind slot word slots) rest
+-- each word at its place without a fault, and no place left where a word has to stand
+abbrev pub Fits : Said → Option HostSpec → List Slot → List (List ℕ) → Type 0
+Fits said host slots [] = end_fault slots ≡ None
+Fits said host [] (word ∷ rest) = ⊥
+Fits said host (slot ∷ slots) (word ∷ rest) = (slot_fault said host slot word ≡ None) × Fits said (named said host slot word) (behind slot word slots) rest
 
-pub fits : (said : Said) (slots : List Slot) (words : List (List ℕ)) → first_fault said slots words ≡ None → Fits said slots words
-fits said [] [] e = tt
-fits said [] (word ∷ rest) e = absurd (cc)
-fits said (slot ∷ slots) [] e = absurd (cc)
-fits said (slot ∷ slots) (word ∷ rest) e =
-    let both = none_of_both (slot_fault said slot word) (first_fault said (behind slot word slots) rest) e in
-    (both.0, fits said (behind slot word slots) rest both.1)
+pub fits : (said : Said) (host : Option HostSpec) (slots : List Slot) (words : List (List ℕ)) → first_fault said host slots words ≡ None → Fits said host slots words
+fits said host slots [] e = e
+fits said host [] (word ∷ rest) e = absurd (cc)
+fits said host (slot ∷ slots) (word ∷ rest) e =
+    let both = none_of_both (slot_fault said host slot word) (first_fault said (named said host slot word) (behind slot word slots) rest) e in
+    (both.0, fits said (named said host slot word) (behind slot word slots) rest both.1)
 
 -- what is known of a good number
-pub number_fits : (low high : ℕ) (word : List ℕ) → number_fault low high (number word) ≡ None → is_between low high (value word) ≡ true
-number_fits low high word e = passed (is_between low high) (number word) 0 e
+pub number_fits : (low high : ℕ) (word : List ℕ) → number_fault low high word ≡ None → is_between low high (value word) ≡ true
+number_fits low high word e = passed kinds.Number (is_between low high) (number word) 0 e
 
-pub number_below : (low high : ℕ) (word : List ℕ) → number_fault low high (number word) ≡ None → nat_le (value word) high ≡ true
+pub number_below : (low high : ℕ) (word : List ℕ) → number_fault low high word ≡ None → nat_le (value word) high ≡ true
 number_below low high word e = (and_parts (nat_le low (value word)) (nat_le (value word) high) (number_fits low high word e)).1
 
-pub number_zero : (word : List ℕ) → number_fault 0 0 (number word) ≡ None → value word ≡ 0
-number_zero word e =
-    let le : value word ≤ 0 = leb-true (value word) 0 (number_below 0 0 word e) in
-    omega (arith, le)
+pub address_fits : (word : List ℕ) → address_fault word ≡ None → is_address (address_value word) ≡ true
+address_fits word e = passed kinds.Number is_address (address word) (record { channel = 0; target = 0; lun = 0 }) e
 
+-- what is known of good names
+not_some : (o : Option HostSpec) → not (is_some o) ≡ true → o ≡ None
+not_some None e = refl
+not_some (Some h) e = absurd (cc)
+
+pub new_host_fits : (said : Said) (word : List ℕ) → new_host_fault said word ≡ None → host_of said.hosts (value word) ≡ None
+new_host_fits said word e =
+    not_some (host_of said.hosts (value word))
+    (none_unless kinds.Twice (not (is_some (host_of said.hosts (value word)))) (none_of_both (number_fault 0 63 word) (unless_true kinds.Twice (not (is_some (host_of said.hosts (value word))))) e).1)
+
+pub host_fits : (said : Said) (word : List ℕ) → host_fault said word ≡ None → is_some (host_of said.hosts (value word)) ≡ true
+host_fits said word e =
+    none_unless kinds.Unknown (is_some (host_of said.hosts (value word))) (none_of_both (number_fault 0 63 word) (unless_true kinds.Unknown (is_some (host_of said.hosts (value word)))) e).1
+
+abbrev has_room : HostSpec → Bool
+has_room h = nat_lt (length h.luns) 256
+
+pub roomy_fits : (said : Said) (word : List ℕ) → roomy_host_fault said word ≡ None → passes (λ h. nat_lt (length h.luns) 256) (host_of said.hosts (value word)) ≡ true
+roomy_fits said word e =
+    none_unless kinds.Limit (passes has_room (host_of said.hosts (value word)))
+    (none_of_both (host_fault said word) (unless_true kinds.Limit (passes has_room (host_of said.hosts (value word)))) e).1
+
+pub new_unit_fits : (host : Option HostSpec) (word : List ℕ) → new_unit_fault host word ≡ None → (is_address (address_value word) ≡ true) × (is_unit host (address_value word) ≡ false)
+new_unit_fits host word e =
+    let both = none_of_both (address_fault word) (unless_true kinds.Twice (not (is_unit host (address_value word)))) e in
+    (address_fits word both.0, true_not (is_unit host (address_value word)) (none_unless kinds.Twice (not (is_unit host (address_value word))) both.1))
+
+pub unit_fits : (host : Option HostSpec) (word : List ℕ) → unit_fault host word ≡ None → is_unit host (address_value word) ≡ true
+unit_fits host word e =
+    none_unless kinds.Unknown (is_unit host (address_value word)) (none_of_both (address_fault word) (unless_true kinds.Unknown (is_unit host (address_value word))) e).1
+
+pub new_command_fits : (said : Said) (word : List ℕ) → new_command_fault said word ≡ None → (is_between 1 4294967295 (value word) ≡ true) × (is_id said.ids (value word) ≡ false)
+new_command_fits said word e =
+    let both = none_of_both (number_fault 1 4294967295 word) (unless_true kinds.Twice (not (is_id said.ids (value word)))) e in
+    (number_fits 1 4294967295 word both.0, true_not (is_id said.ids (value word)) (none_unless kinds.Twice (not (is_id said.ids (value word))) both.1))
+
+pub lane_fits : (host : Option HostSpec) (word : List ℕ) → lane_fault host word ≡ None → is_lane host (value word) ≡ true
+lane_fits host word e =
+    none_unless kinds.Unknown (is_lane host (value word)) (none_of_both (number_fault 0 63 word) (unless_true kinds.Unknown (is_lane host (value word))) e).1
+
+-- a step that is named without a fault
 below : (n m : ℕ) → nat_le n (m - 1) ≡ true → 0 < m → n < m
 below n m e some = omega (arith, leb-true n (m - 1) e)
 
-pub attempt_fits : (word : List ℕ) → number_fault 0 (2 ^ 60 - 1) (number word) ≡ None → value word < 2 ^ 60
+attempt_fits : (word : List ℕ) → number_fault 0 (2 ^ 60 - 1) word ≡ None → value word < 2 ^ 60
 attempt_fits word e = below (value word) (2 ^ 60) (number_below 0 (2 ^ 60 - 1) word e) (lit< tt)
 
-pub address_fits : (word : List ℕ) → address_fault (address word) ≡ None → is_address (address_value word) ≡ true
-address_fits word e = passed is_address (address word) (record { channel = 0; target = 0; lun = 0 }) e
+step_of_fits : (name : Option StepName) (said : Said) (h : HostSpec) (rest : List (List ℕ)) → unless_true kinds.Word (is_some name) ≡ None → Fits said (Some h) (step_slots name) rest → IsStepOn h (step_of name rest)
+step_of_fits None said h rest e f = absurd (cc)
+step_of_fits (Some names.Submit) said h [] e f = absurd (cc)
+step_of_fits (Some names.Submit) said h (lane ∷ rest) e f = lane_fits (Some h) lane f.0
+step_of_fits (Some names.Send) said h rest e f = tt
+step_of_fits (Some names.Work) said h rest e f = tt
+step_of_fits (Some names.Own) said h [] e f = absurd (cc)
+step_of_fits (Some names.Own) said h (attempt ∷ rest) e f = attempt_fits attempt f.0
+step_of_fits (Some names.Settle) said h [] e f = absurd (cc)
+step_of_fits (Some names.Settle) said h (attempt ∷ rest) e f = attempt_fits attempt f.0
+step_of_fits (Some names.Tick) said h rest e f = tt
+step_of_fits (Some names.State) said h [] e f = absurd (cc)
+step_of_fits (Some names.State) said h (unit ∷ []) e f = absurd (let g = f.1 in cc g)
+step_of_fits (Some names.State) said h (unit ∷ state ∷ rest) e f = unit_fits (Some h) unit f.0
 
-pub host_fits : (said : Said) (word : List ℕ) → slot_fault said KnownHost word ≡ None → is_host said (value word) ≡ true
-host_fits said word e =
-    none_unless (is_host said (value word)) (none_of_both (number_fault 0 63 (number word)) (unless_true (is_host said (value word))) e).1
-
-pub unit_fits : (said : Said) (word : List ℕ) → slot_fault said KnownUnit word ≡ None → is_unit said (address_value word) ≡ true
-unit_fits said word e =
-    none_unless (is_unit said (address_value word)) (none_of_both (address_fault (address word)) (unless_true (is_unit said (address_value word))) e).1
-
--- a step that is named without a fault
-step_plays : (name : Option StepName) (said : Said) (rest : List (List ℕ)) → unless_true (is_some name) ≡ None → Fits said (step_slots name) rest → IsPlayableStep (step_of name rest)
-step_plays None said rest e f = absurd (cc)
-step_plays (Some names.Submit) said [] e f = absurd f
-step_plays (Some names.Submit) said (lane ∷ rest) e f = number_zero lane f.0
-step_plays (Some names.Send) said rest e f = tt
-step_plays (Some names.Work) said rest e f = tt
-step_plays (Some names.Own) said [] e f = absurd f
-step_plays (Some names.Own) said (attempt ∷ rest) e f = attempt_fits attempt f.0
-step_plays (Some names.Settle) said [] e f = absurd f
-step_plays (Some names.Settle) said (attempt ∷ rest) e f = attempt_fits attempt f.0
-step_plays (Some names.Tick) said rest e f = tt
-
-pub step_fits : (said : Said) (words : List (List ℕ)) → Fits said (AnyStep ∷ []) words → IsPlayableStep (step_in words)
-step_fits said [] f = absurd f
-step_fits said (word ∷ rest) f = step_plays (step_name word) said rest f.0 f.1
+pub step_fits : (said : Said) (host : Option HostSpec) (words : List (List ℕ)) → is_some host ≡ true → Fits said host (AnyStep ∷ []) words → IsStepOnSome host (step_in words)
+step_fits said None words some f = absurd (cc)
+step_fits said (Some h) [] some f = absurd (cc)
+step_fits said (Some h) (word ∷ rest) some f = step_of_fits (step_name word) said h rest f.0 f.1

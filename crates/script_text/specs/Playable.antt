@@ -1,59 +1,42 @@
 -- What whoever plays a good script may rely on.
-use Rattle.std.specs.Prelude.{◌≡◌, ℕ, ◌==◌, ◌^◌, ◌<◌, true, false, List, [], length, replicate, None, All}
+use Rattle.std.specs.Prelude.{◌≡◌, ℕ, ◌==◌, ◌^◌, ◌<◌, Bool, true, false, not, ◌&&◌, List, [], ◌∷◌, length, find, None, Option, Some, All}
 use Rattle.std.specs.List.{list_any}
-use Rattle.mid_base.specs.Bytes.{cdb_list}
 use Rattle.mid_base.specs.Limits.{KeepsLimits}
+use Rattle.mid_base.specs.Address.{has_dev}
 use Rattle.mid_base.specs.declared.answers.By.TheVariants as owners
-use Rattle.mid_base.specs.declared.host_spec.LunSpec.{LunSpec}
-use Rattle.mid_base.specs.declared.host_spec.CmdSpec.{CmdSpec}
 use Rattle.mid_base.specs.declared.host_spec.HostSpec.{HostSpec}
 use Rattle.mid_base.specs.declared.names.HostNo.{HostNo}
-use Rattle.mid_base.specs.declared.states.DeviceState.TheVariants.{Running}
 use Rattle.mid_base.specs.declared.steps.Step.{Step}
-use Rattle.mid_base.specs.declared.steps.Step.TheVariants.{Submit, Send, Work, Own, Settle, Tick}
+use Rattle.mid_base.specs.declared.steps.Step.TheVariants.{Submit, Send, Work, Own, Settle, Tick, SetState}
 use Rattle.script_text.specs.declared.script.Script.{Script}
+use Rattle.script_text.specs.Said.{host_of, has_lane}
 
--- a unit whose device is running, that is started and that may be written
-pub record IsPlainUnit (l : LunSpec) : Type 0 where
-  pub running : l.start ≡ Running
-  pub started : l.stopped ≡ false
-  pub writable : l.read_only ≡ false
+-- a step of a kind that a script may name, for this host: a lane has commands, a device is one of its units
+abbrev pub IsStepOn : HostSpec → Step → Type 0
+IsStepOn h (Submit lane) = has_lane h.cmds lane.0 ≡ true
+IsStepOn h Send = Unit {0}
+IsStepOn h Work = Unit {0}
+IsStepOn h (Own n owners.Answer) = n.0 < 2 ^ 60
+IsStepOn h (Settle n) = n.0 < 2 ^ 60
+IsStepOn h Tick = Unit {0}
+IsStepOn h (SetState dev state) = has_dev h.luns dev ≡ true
+IsStepOn h _ = ⊥
 
--- TEST UNIT READY in lane 0
-pub record IsPlainCommand (k : CmdSpec) : Type 0 where
-  pub lane : k.lane.0 ≡ 0
-  pub cdb : cdb_list k.cdb ≡ replicate 6 0
-  pub retries : k.failfast ≡ false
+-- the host of a step is one of these, and the step is one on it
+abbrev pub IsStepOnSome : Option HostSpec → Step → Type 0
+IsStepOnSome None step = ⊥
+IsStepOnSome (Some h) step = IsStepOn h step
 
--- a host within the limits, with one unit and one command
-pub record IsPlayableHost (h : HostSpec) : Type 0 where
-  pub limits : KeepsLimits h
-  pub one_unit : length h.luns ≡ 1
-  pub units : All IsPlainUnit h.luns
-  pub one_command : length h.cmds ≡ 1
-  pub commands : All IsPlainCommand h.cmds
-  pub no_plan : h.plan ≡ []
-  pub aborts : h.no_async_abort ≡ false
+abbrev pub IsStepOf : List HostSpec → ℕ × HostNo × Step → Type 0
+IsStepOf hosts s = IsStepOnSome (host_of hosts s.1.0) s.2
 
--- a step of a kind that a script may name
-abbrev pub IsPlayableStep : Step → Type 0
-IsPlayableStep (Submit lane) = lane.0 ≡ 0
-IsPlayableStep Send = Unit {0}
-IsPlayableStep Work = Unit {0}
-IsPlayableStep (Own n owners.Answer) = n.0 < 2 ^ 60
-IsPlayableStep (Settle n) = n.0 < 2 ^ 60
-IsPlayableStep Tick = Unit {0}
-IsPlayableStep _ = ⊥
-
--- the step of a line is of one of these hosts
-pub record IsStepOf (hosts : List HostSpec) (s : ℕ × HostNo × Step) : Type 0 where
-  pub host : list_any (λ h. h.no.0 == s.1.0) hosts ≡ true
-  pub step : IsPlayableStep s.2
+abbrev pub differ_in_number : List HostSpec → Bool
+differ_in_number [] = true
+differ_in_number (h ∷ hosts) = not (list_any (λ g. g.no.0 == h.no.0) hosts) && differ_in_number hosts
 
 pub record IsPlayable (s : Script) : Type 0 where
-  pub one_host : length s.hosts ≡ 1
-  pub hosts : All IsPlayableHost s.hosts
+  pub limits : All KeepsLimits s.hosts
+  pub numbers : differ_in_number s.hosts ≡ true
   pub steps : All (IsStepOf s.hosts) s.steps
   pub no_scan : s.scans ≡ []
-  pub no_budget : s.budget ≡ None
   pub no_drain : s.drain ≡ false

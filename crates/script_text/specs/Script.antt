@@ -1,66 +1,68 @@
 -- What a whole script says, or its first bad line.
-use Rattle.std.specs.Prelude.{ℕ, ◌+◌, nat_lt, Bool, true, false, ◌&&◌, if◌then◌else◌, List, [], ◌∷◌, length, Option, Some, None, Result, Ok, Err}
-use Rattle.mid_base.specs.declared.host_spec.LunSpec.{LunSpec}
-use Rattle.mid_base.specs.declared.host_spec.CmdSpec.{CmdSpec}
-use Rattle.mid_base.specs.declared.host_spec.HostSpec.{HostSpec}
-use Rattle.mid_base.specs.declared.names.HostNo.{HostNo}
-use Rattle.mid_base.specs.declared.steps.Step.{Step}
-use Rattle.script_text.specs.declared.draft.HostLine.{HostLine}
-use Rattle.script_text.specs.declared.words.Keyword.{Keyword}
-use Rattle.script_text.specs.declared.kind.Kind.{Kind}
-use Rattle.script_text.specs.declared.kind.Kind.TheVariants as kinds
+use Rattle.std.specs.Prelude.{ℕ, ◌+◌, nat_lt, nat_le, Bool, true, false, not, ◌&&◌, if◌then◌else◌, List, [], ◌∷◌, length, take, Option, Some, None, is_some, Result, Ok, Err}
+use Rattle.script_words.specs.declared.keywords.Keyword.{Keyword}
+use Rattle.script_words.specs.declared.keywords.Keyword.TheVariants as keys
+use Rattle.script_words.specs.declared.kind.Kind.{Kind}
+use Rattle.script_words.specs.declared.kind.Kind.TheVariants as kinds
+use Rattle.script_words.specs.Pieces.{lines, words, is_last}
+use Rattle.script_words.specs.Keywords.{keyword, is_remark}
+use Rattle.script_words.specs.Faults.{kind_number, unless_true}
 use Rattle.script_text.specs.declared.script.Script.{Script}
 use Rattle.script_text.specs.declared.script.Bad.{Bad}
-use Rattle.script_text.specs.Fed.{counted}
-use Rattle.script_text.specs.Pieces.{lines, words, is_last}
-use Rattle.script_text.specs.Said.{Said, nothing, expects}
-use Rattle.script_text.specs.Keywords.{keyword}
-use Rattle.script_text.specs.Slots.{slots, first_fault}
+use Rattle.script_text.specs.Said.{Said, nothing}
+use Rattle.script_text.specs.Slots.{slots, or_else, first_fault}
 use Rattle.script_text.specs.Adds.{adds}
-
-abbrev pub kind_number : Kind → ℕ
-kind_number kinds.Word = 1
-kind_number kinds.Limit = 8
 
 abbrev pub bad : ℕ → Kind → Bad
 bad n kind = record { line = n; kind = kind_number kind }
+
+-- the budget is said already
+abbrev pub is_again : Said → Keyword → Bool
+is_again said keys.BudgetLine = is_some said.budget
+is_again said _ = false
+
+-- there are as many lines of this kind as there may be
+abbrev pub is_full : Said → Keyword → Bool
+is_full said keys.HostLine = nat_le 64 (length said.hosts)
+is_full said keys.PlanLine = nat_le 65536 said.plans
+is_full said keys.CommandLine = nat_le 65536 (length said.ids)
+is_full said _ = false
+
+-- what is wrong with a line by its first word alone
+abbrev pub keyword_fault : Said → Keyword → Option Kind
+keyword_fault said k =
+    or_else (unless_true kinds.Twice (not (is_again said k)))
+    (or_else (unless_true kinds.AfterEnd (not said.ended)) (unless_true kinds.Limit (not (is_full said k))))
 
 abbrev pub unless : Option Kind → Said → Result Said Kind
 unless None said = Ok said
 unless (Some kind) said = Err kind
 
--- the words behind the first one of line n
-abbrev pub judge_slots : ℕ → Said → Keyword → List (List ℕ) → Result Said Kind
-judge_slots n said k rest = unless (first_fault said (slots k) rest) (adds n said k rest)
+-- the words behind the first one
+abbrev pub judge_slots : Said → Keyword → List (List ℕ) → Result Said Kind
+judge_slots said k rest = unless (first_fault said None (slots k) rest) (adds said k rest)
 
-abbrev pub judge_rest : ℕ → Said → List (List ℕ) → Option Keyword → Result Said Kind
-judge_rest n said rest None = Err kinds.Word
-judge_rest n said rest (Some k) = if expects said k then judge_slots n said k rest else Err kinds.Word
+abbrev pub after_keyword : Option Kind → Result Said Kind → Result Said Kind
+after_keyword None judged = judged
+after_keyword (Some kind) judged = Err kind
 
--- line n by its words
-unfoldable pub judge : ℕ → Said → List (List ℕ) → Result Said Kind
-judge n said [] = Err kinds.Word
-judge n said (word ∷ rest) = judge_rest n said rest (keyword word)
+abbrev pub judge_rest : Said → List (List ℕ) → Option Keyword → Result Said Kind
+judge_rest said rest None = Err kinds.Word
+judge_rest said rest (Some k) = after_keyword (keyword_fault said k) (judge_slots said k rest)
 
--- the host of a script, with its unit and its command
-abbrev pub host_spec : HostLine → LunSpec → CmdSpec → HostSpec
-host_spec h l k = record {
-  no = h.no;
-  can_queue = h.can_queue;
-  handlers = h.handlers;
-  no_async_abort = false;
-  luns = l ∷ [];
-  cmds = k ∷ [];
-  plan = [];
-}
-
-abbrev pub whole_of : ℕ → Option HostLine → Option LunSpec → Option CmdSpec → Bool → List (ℕ × HostNo × Step) → Result Script Bad
-whole_of n (Some h) (Some l) (Some k) true steps = Ok (record { hosts = host_spec h l k ∷ []; scans = []; steps = steps; budget = None; drain = false })
-whole_of n _ _ _ _ steps = Err (bad n kinds.Word)
+-- a line by its words; one without words and a remark say nothing
+unfoldable pub judge : Said → List (List ℕ) → Result Said Kind
+judge said [] = Ok said
+judge said (word ∷ rest) = if is_remark word then Ok said else judge_rest said rest (keyword word)
 
 -- the lines end before line n
 abbrev pub whole : ℕ → Said → Result Script Bad
-whole n said = whole_of n said.host said.lun said.command said.ended said.steps
+whole n said =
+    if said.ended then Ok (record { hosts = said.hosts; scans = []; steps = said.steps; budget = said.budget; drain = false })
+    else Err (bad n kinds.NoEnd)
+
+abbrev pub at_line : ℕ → Said → Said
+at_line n said = record said { line = n }
 
 -- the first bad line counts
 abbrev pub after_line : ℕ → (Said → Result Script Bad) → Result Said Kind → Result Script Bad
@@ -72,7 +74,11 @@ unfoldable pub judge_lines : Bool → ℕ → Said → List (List ℕ) → Resul
 judge_lines is_cut n said [] = whole n said
 judge_lines is_cut n said (line ∷ rest) =
     if is_cut && is_last rest then Err (bad n kinds.Limit)
-    else after_line n (λ s. judge_lines is_cut (n + 1) s rest) (judge n said (words line))
+    else after_line n (λ s. judge_lines is_cut (n + 1) s rest) (judge (at_line n said) (words line))
+
+-- what counts of a text: all bytes up to number 16,777,217, whose line is bad
+abbrev pub counted : List ℕ → List ℕ
+counted text = take 16777217 text
 
 -- What a script says, or the line and kind of its first bad line. The line that has byte 16,777,217 is bad whatever its
 -- words are, so no byte behind that one matters.

@@ -1,17 +1,16 @@
-ghost use Rattle.std.specs.Prelude.{◌≡◌, ℕ, List, ◌++◌, Ok};
-ghost use Rattle.script_text.specs.Fed.{counted};
-ghost use Rattle.script_text.specs.Script.{script_of};
+ghost use Rattle.std.specs.Prelude.{◌≡◌, ℕ, List, Ok};
+ghost use Rattle.script_text.specs.Script.{counted, script_of};
 ghost use Rattle.script_text.specs.Playable.{IsPlayable};
 ghost use Rattle.script_text.specs.declared.script.Script.{Script as ScriptSaid};
 
-/// A good script says one host within the limits, with one running unit and one command, and steps of that host alone.
+/// What a good script says can be played: its hosts keep the limits, their numbers differ, and each step is one that can be
+/// read and is of one of these hosts, with its unit or with a lane that has commands.
 pub fn good_scripts_are_playable()
     ensures { (text : List ℕ) (script : ScriptSaid) → script_of text ≡ Ok script → IsPlayable script }
 {}
 
-/// The bytes of a text up to number 16,777,217 say what the whole text says, and a text may be cut there before more comes.
-#[tactic(auto, using(crate::proofs::Counted::counted_says_all, crate::proofs::Counted::counted_again))]
+/// No byte of a text behind number 16,777,217 matters.
+#[tactic(auto, using(crate::proofs::Counted::counted_says_all))]
 pub fn counted_bytes_say_all()
-    ensures same { (text : List ℕ) → script_of (counted text) ≡ script_of text }
-    ensures again { (text more : List ℕ) → counted (counted text ++ more) ≡ counted (text ++ more) }
+    ensures { (text : List ℕ) → script_of (counted text) ≡ script_of text }
 {}

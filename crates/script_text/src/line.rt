@@ -1,131 +1,147 @@
-ghost use Rattle.std.specs.Prelude.{◌≡◌, ℕ};
-ghost use Rattle.script_text.specs.Pieces.{parts_left, words};
-ghost use Rattle.script_text.specs.Adds.{test_unit_ready};
+ghost use Rattle.std.specs.Prelude.{◌≡◌, ◌<◌};
+ghost use Rattle.script_words.specs.Pieces.{words};
+ghost use Rattle.script_words.specs.declared.keywords.Keyword.TheVariants.{HostLine, LunLine, PlanLine, StepLine, BudgetLine, EndLine};
 ghost use Rattle.script_text.specs.Script.{judge, judge_slots};
 ghost use Rattle.script_text.specs.Gives.{seen, Judges};
-ghost use Rattle.script_text.specs.declared.words.Keyword.TheVariants.{HostLine, LunLine, CommandLine, StepLine, EndLine};
 
-use crate::address::address_in;
-use crate::draft::{Draft, HostLine as HostSaid};
-use crate::handlers::handlers_in;
-use crate::kind::{Kind, LineFault};
-use crate::pieces::Parts;
-use crate::slots::{exactly, host_in, no_more, number_in, unit_in};
+use crate::command_line::command_line;
+use crate::draft::Draft;
+use crate::ends::{no_async_in, no_more, unit_flags_in};
+use crate::host_draft::HostDraft;
+use crate::names::{host_in, new_host_in, new_unit_in, roomy_host_in, unit_in};
+use crate::plan::fault_in;
 use crate::steps::step_in;
-use crate::words::{Keyword, keyword_of};
-use mid_base::{CdbBytes, CmdId, CmdSpec, DeviceState, HostNo, LaneNo, LunSpec};
+use mid_base::{DeviceState, HostNo, LunSpec, NoMemory, PlanEntry};
+use script_words::{
+    Keyword, Kind, LineFault, Words, exactly, handlers_in, keyword_of, number_in, plan_kind_in,
+};
 
-/// Adds what this line says, which has the number `number`.
-#[tactic(auto, unfolding(crate::specs::Script::judge))]
-pub fn take_line(draft: &mut Draft, number: u64, line: &[u8]) -> Result<(), LineFault>
-    ensures { Judges (seen draft.new) result (judge number (seen draft.old) (words line.now)) }
+fn memory(_: NoMemory) -> LineFault
+    ensures { result ≡ LineFault.Memory }
 {
-    let mut words = Parts {
-        rest: Some(line),
-        separator: b' ',
-    };
-    let Some(word) = words.next() else {
-        return Err(LineFault::Bad(Kind::Word));
-    };
-    let Some(keyword) = keyword_of(word) else {
-        return Err(LineFault::Bad(Kind::Word));
-    };
-    if !draft.expects(keyword) {
-        return Err(LineFault::Bad(Kind::Word));
-    }
-    match keyword {
-        Keyword::HostLine => host_line(draft, words),
-        Keyword::LunLine => lun_line(draft, words),
-        Keyword::CommandLine => command_line(draft, words),
-        Keyword::StepLine => step_line(draft, number, words),
-        Keyword::EndLine => end_line(draft, words),
+    LineFault::Memory
+}
+
+/// Adds what this line says.
+#[tactic(auto, unfolding(crate::specs::Script::judge))]
+pub fn take_line(draft: &mut Draft, line: &[u8]) -> Result<(), LineFault>
+    ensures { Judges (seen draft.new) result (judge (seen draft.old) (words line.now)) }
+{
+    let mut words = Words { rest: line };
+    match words.next() {
+        None => Ok(()),
+        Some([b'#', ..]) => Ok(()),
+        Some(word) => match keyword_of(word) {
+            None => Err(LineFault::Bad(Kind::Word)),
+            Some(keyword) => match draft.bars(keyword) {
+                Some(kind) => Err(LineFault::Bad(kind)),
+                None => take_words(draft, keyword, words),
+            },
+        },
     }
 }
 
-fn host_line(draft: &mut Draft, rest: Parts) -> Result<(), LineFault>
-    ensures { (n : ℕ) → Judges (seen draft.new) result (judge_slots n (seen draft.old) HostLine (parts_left rest.entry.separator rest.entry.rest)) }
+/// Adds what the words behind the first one say.
+fn take_words(draft: &mut Draft, keyword: Keyword, rest: Words) -> Result<(), LineFault>
+    requires { keyword ≡ PlanLine → draft.old.plans < 65536 }
+    ensures { Judges (seen draft.new) result (judge_slots (seen draft.old) keyword (words rest.entry.rest.now)) }
+{
+    match keyword {
+        Keyword::HostLine => host_line(draft, rest),
+        Keyword::LunLine => lun_line(draft, rest),
+        Keyword::PlanLine => plan_line(draft, rest),
+        Keyword::CommandLine => command_line(draft, rest),
+        Keyword::StepLine => step_line(draft, rest),
+        Keyword::BudgetLine => budget_line(draft, rest),
+        Keyword::EndLine => end_line(draft, rest),
+    }
+}
+
+fn host_line(draft: &mut Draft, rest: Words) -> Result<(), LineFault>
+    ensures { Judges (seen draft.new) result (judge_slots (seen draft.old) HostLine (words rest.entry.rest.now)) }
 {
     let mut words = rest;
-    let number = number_in(words.next(), 0, 63).map_err(LineFault::Bad)?;
+    let number = new_host_in(draft, words.next()).map_err(LineFault::Bad)?;
     let can_queue = number_in(words.next(), 1, 1024).map_err(LineFault::Bad)?;
     let handlers = handlers_in(words.next()).map_err(LineFault::Bad)?;
-    no_more(words.next()).map_err(LineFault::Bad)?;
-    draft.host = Some(HostSaid {
-        no: HostNo(number as u8),
-        can_queue: can_queue as u16,
+    let no_async_abort = no_async_in(words).map_err(LineFault::Bad)?;
+    let host = HostDraft::new(
+        draft.alloc,
+        HostNo(number as u8),
+        can_queue as u16,
         handlers,
-    });
-    Ok(())
+        no_async_abort,
+    );
+    draft.add_host(host).map_err(memory)
 }
 
-fn lun_line(draft: &mut Draft, rest: Parts) -> Result<(), LineFault>
-    ensures { (n : ℕ) → Judges (seen draft.new) result (judge_slots n (seen draft.old) LunLine (parts_left rest.entry.separator rest.entry.rest)) }
+fn lun_line(draft: &mut Draft, rest: Words) -> Result<(), LineFault>
+    ensures { Judges (seen draft.new) result (judge_slots (seen draft.old) LunLine (words rest.entry.rest.now)) }
 {
     let mut words = rest;
-    host_in(draft, words.next()).map_err(LineFault::Bad)?;
-    let dev = address_in(words.next()).map_err(LineFault::Bad)?;
+    let host = roomy_host_in(draft, words.next()).map_err(LineFault::Bad)?;
+    let no = host.no();
+    let dev = new_unit_in(host, words.next()).map_err(LineFault::Bad)?;
     let blocks = number_in(words.next(), 1, 4_294_967_295).map_err(LineFault::Bad)?;
     let depth = number_in(words.next(), 1, 1024).map_err(LineFault::Bad)?;
-    no_more(words.next()).map_err(LineFault::Bad)?;
-    draft.lun = Some(LunSpec {
+    let flags = unit_flags_in(words).map_err(LineFault::Bad)?;
+    let unit = LunSpec {
         dev,
         blocks: blocks as u32,
         depth: depth as u16,
-        read_only: false,
-        stopped: false,
+        read_only: flags.read_only,
+        stopped: flags.stopped,
         start: DeviceState::Running,
-    });
-    Ok(())
+    };
+    draft.add_unit(no, unit).map_err(memory)
 }
 
-/// TEST UNIT READY (SPC-4, TEST UNIT READY command): six bytes, all zero.
-#[tactic(auto, using(mid_base::proofs::Same::same_cdb))]
-fn test_unit_ready() -> CdbBytes
-    ensures { result ≡ test_unit_ready }
-{
-    CdbBytes::from_slice(&[0; 6])
-}
-
-fn command_line(draft: &mut Draft, rest: Parts) -> Result<(), LineFault>
-    ensures { (n : ℕ) → Judges (seen draft.new) result (judge_slots n (seen draft.old) CommandLine (parts_left rest.entry.separator rest.entry.rest)) }
-{
-    let mut words = rest;
-    let id = number_in(words.next(), 1, 4_294_967_295).map_err(LineFault::Bad)?;
-    host_in(draft, words.next()).map_err(LineFault::Bad)?;
-    let lane = number_in(words.next(), 0, 0).map_err(LineFault::Bad)?;
-    let dev = unit_in(draft, words.next()).map_err(LineFault::Bad)?;
-    let timeout = number_in(words.next(), 1, 10_000).map_err(LineFault::Bad)?;
-    let allowed = number_in(words.next(), 0, 20).map_err(LineFault::Bad)?;
-    exactly(words.next(), b"-").map_err(LineFault::Bad)?;
-    exactly(words.next(), b"000000000000").map_err(LineFault::Bad)?;
-    no_more(words.next()).map_err(LineFault::Bad)?;
-    draft.command = Some(CmdSpec {
-        id: CmdId(id as u32),
-        lane: LaneNo(lane as u8),
-        dev,
-        cdb: test_unit_ready(),
-        fill: 0,
-        timeout: timeout as u32,
-        allowed: allowed as u8,
-        failfast: false,
-    });
-    Ok(())
-}
-
-fn step_line(draft: &mut Draft, number: u64, rest: Parts) -> Result<(), LineFault>
-    ensures { Judges (seen draft.new) result (judge_slots number (seen draft.old) StepLine (parts_left rest.entry.separator rest.entry.rest)) }
+fn plan_line(draft: &mut Draft, rest: Words) -> Result<(), LineFault>
+    requires { draft.old.plans < 65536 }
+    ensures { Judges (seen draft.new) result (judge_slots (seen draft.old) PlanLine (words rest.entry.rest.now)) }
 {
     let mut words = rest;
     let host = host_in(draft, words.next()).map_err(LineFault::Bad)?;
-    let step = step_in(draft, words).map_err(LineFault::Bad)?;
-    match draft.steps.push((number, HostNo(host as u8), step)) {
-        Ok(()) => Ok(()),
-        Err(_) => Err(LineFault::Memory),
-    }
+    let no = host.no();
+    let dev = unit_in(host, words.next()).map_err(LineFault::Bad)?;
+    let kind = plan_kind_in(words.next()).map_err(LineFault::Bad)?;
+    let first = number_in(words.next(), 1, 65_535).map_err(LineFault::Bad)?;
+    let every = number_in(words.next(), 1, 65_535).map_err(LineFault::Bad)?;
+    let uses = number_in(words.next(), 1, 65_535).map_err(LineFault::Bad)?;
+    let fault = fault_in(draft.alloc, kind, words)?;
+    let entry = PlanEntry {
+        dev,
+        fault,
+        first: first as u32,
+        every: every as u32,
+        uses: uses as u32,
+    };
+    draft.add_planned(no, entry).map_err(memory)
 }
 
-fn end_line(draft: &mut Draft, rest: Parts) -> Result<(), LineFault>
-    ensures { (n : ℕ) → Judges (seen draft.new) result (judge_slots n (seen draft.old) EndLine (parts_left rest.entry.separator rest.entry.rest)) }
+fn step_line(draft: &mut Draft, rest: Words) -> Result<(), LineFault>
+    ensures { Judges (seen draft.new) result (judge_slots (seen draft.old) StepLine (words rest.entry.rest.now)) }
+{
+    let mut words = rest;
+    let host = host_in(draft, words.next()).map_err(LineFault::Bad)?;
+    let no = host.no();
+    let step = step_in(host, words).map_err(LineFault::Bad)?;
+    draft.add_step(no, step).map_err(memory)
+}
+
+fn budget_line(draft: &mut Draft, rest: Words) -> Result<(), LineFault>
+    ensures { Judges (seen draft.new) result (judge_slots (seen draft.old) BudgetLine (words rest.entry.rest.now)) }
+{
+    let mut words = rest;
+    let rounds =
+        number_in(words.next(), 1, 1_000_000_000_000_000_000).map_err(LineFault::Bad)?;
+    no_more(words.next()).map_err(LineFault::Bad)?;
+    draft.budget = Some(rounds as u64);
+    Ok(())
+}
+
+fn end_line(draft: &mut Draft, rest: Words) -> Result<(), LineFault>
+    ensures { Judges (seen draft.new) result (judge_slots (seen draft.old) EndLine (words rest.entry.rest.now)) }
 {
     let mut words = rest;
     exactly(words.next(), b"stop").map_err(LineFault::Bad)?;

@@ -1,94 +1,95 @@
-ghost use Rattle.std.specs.Prelude.{◌≡◌, ◌≤◌, ◌∷◌, [], length, MatchResult};
-ghost use Rattle.script_text.specs.Script.{bad, whole};
-ghost use Rattle.script_text.specs.Gives.{seen};
-ghost use Rattle.script_text.specs.Reads.{Answers, Reads};
+ghost use Rattle.std.specs.Prelude.{◌≡◌, ◌+◌, ◌^◌, ◌<◌, not, true, false, IfOk};
+ghost use Rattle.std.specs.List.{list_all};
+ghost use Rattle.script_words.specs.Pieces.{lines, is_newline};
+ghost use Rattle.script_text.specs.Script.{bad, whole, judge_lines};
+ghost use Rattle.script_text.specs.Gives.{seen, EndsLine};
+ghost use Rattle.script_text.specs.Reads.{Answers};
 
 use crate::draft::Draft;
-use crate::kind::{Kind, LineFault};
+use crate::host_draft::HostDraft;
 use crate::line::take_line;
-use crate::pieces::Lines;
 use crate::script::{Bad, ReadEnd, Script};
-use mid_base::{HostSpec, Rows};
+use mid_base::{HostSpec, NoMemory, Rows};
+use script_words::{Kind, LineFault};
 use std::alloc::Global;
 
-/// The longest script, in bytes.
-pub const LONGEST: usize = 16_777_216;
-
-fn bad(line: u64, kind: Kind) -> ReadEnd
-    ensures { result ≡ ReadEnd.Bad (bad line kind) }
+/// This line is the first bad one.
+pub fn bad(line: u64, kind: Kind) -> Bad
+    ensures { result ≡ bad line kind }
 {
-    ReadEnd::Bad(Bad {
+    Bad {
         line,
         kind: kind.number(),
-    })
-}
-
-/// A single row.
-fn one_row<T: Drop>(alloc: Global, item: T) -> Result<Rows<T>, ReadEnd>
-    ensures { MatchResult result (λ rows. rows ≡ item ∷ []) (λ end. end ≡ ReadEnd.NoMemory) }
-{
-    let mut rows = Vec::new(alloc);
-    match rows.push(item) {
-        Ok(()) => Ok(Rows::from_vec(rows)),
-        Err(_) => Err(ReadEnd::NoMemory),
     }
 }
 
-/// The script of these lines, where `line` is the number of the next one. It is bad where a line lacks.
-fn whole(alloc: Global, draft: Draft, line: u64) -> Result<Script, ReadEnd>
+/// The specs of these hosts.
+fn specs_of(alloc: Global, drafts: Vec<HostDraft>) -> Result<Rows<HostSpec>, NoMemory>
+    ensures { IfOk result (λ rows. rows ≡ drafts.items) }
+{
+    let mut specs = Vec::new(alloc);
+    for draft in drafts {
+        if specs.push(draft.into_spec()).is_err() {
+            return Err(NoMemory);
+        }
+    }
+    Ok(Rows::from_vec(specs))
+}
+
+/// The script of these lines, where `line` is the number of the next one. It is bad where its last line lacks.
+fn whole(draft: Draft, line: u64) -> Result<Script, ReadEnd>
     ensures { Answers (whole line (seen draft)) result }
 {
     let Draft {
-        host,
-        lun,
-        command,
+        alloc,
+        hosts,
         steps,
+        budget,
         ended,
+        ..
     } = draft;
-    let (Some(host), Some(lun), Some(command)) = (host, lun, command) else {
-        return Err(bad(line, Kind::Word));
-    };
     if !ended {
-        return Err(bad(line, Kind::Word));
+        return Err(ReadEnd::Bad(bad(line, Kind::NoEnd)));
     }
-    let host = HostSpec {
-        no: host.no,
-        can_queue: host.can_queue,
-        handlers: host.handlers,
-        no_async_abort: false,
-        luns: one_row(alloc, lun)?,
-        cmds: one_row(alloc, command)?,
-        plan: Rows::new(alloc),
-    };
-    Ok(Script {
-        hosts: one_row(alloc, host)?,
-        scans: Rows::new(alloc),
-        steps: Rows::from_vec(steps),
-        budget: None,
-        drain: false,
-    })
+    match specs_of(alloc, hosts) {
+        Err(_) => Err(ReadEnd::NoMemory),
+        Ok(hosts) => Ok(Script {
+            hosts,
+            scans: Rows::new(alloc),
+            steps: Rows::from_vec(steps),
+            budget,
+            drain: false,
+        }),
+    }
 }
 
-/// Reads a text, of which no byte behind number 16,777,217 is given.
-#[tactic(auto, using(crate::proofs::Cuts::lines_few, crate::proofs::Counted::judged_whole), unfolding(crate::specs::Script::judge_lines))]
-pub fn read(alloc: Global, text: &[u8]) -> Result<Script, ReadEnd>
-    requires { length text.now ≤ 16777217 }
-    ensures { Reads text.now result }
+/// Adds what this line says, which comes behind `before` others. If it is bad, that is the answer.
+pub fn end_line(draft: &mut Draft, line: &[u8], before: u64) -> Result<Option<Bad>, NoMemory>
+    requires { before < 2 ^ 32 }
+    ensures { EndsLine (seen draft.old) (seen draft.new) line.now before result }
 {
-    let is_cut = text.len() > LONGEST;
-    let mut draft = Draft::new(alloc);
-    let mut lines = Lines { rest: text };
-    let mut before: u64 = 0;
-    while let Some(line) = lines.next() {
-        if is_cut && lines.is_over() {
-            return Err(bad(before + 1, Kind::Limit));
-        }
-        match take_line(&mut draft, before + 1, line) {
-            Ok(()) => {}
-            Err(LineFault::Bad(kind)) => return Err(bad(before + 1, kind)),
-            Err(LineFault::Memory) => return Err(ReadEnd::NoMemory),
-        }
-        before += 1;
+    draft.line = before + 1;
+    match take_line(draft, line) {
+        Ok(()) => Ok(None),
+        Err(LineFault::Bad(kind)) => Ok(Some(bad(before + 1, kind))),
+        Err(LineFault::Memory) => Err(NoMemory),
     }
-    whole(alloc, draft, before + 1)
+}
+
+/// The script that ends with this part of a line, without a newline. It comes behind `before` lines.
+#[tactic(auto, using(crate::proofs::Telling::last_is, crate::proofs::Telling::no_lines), unfolding(crate::specs::Script::judge_lines))]
+pub fn last_line(draft: Draft, part: &[u8], before: u64) -> Result<Script, ReadEnd>
+    requires small { before < 2 ^ 32 }
+    requires inside { list_all (λ b. not (is_newline b)) part.now ≡ true }
+    ensures { Answers (judge_lines false (before + 1) (seen draft) (lines part.now)) result }
+{
+    if part.is_empty() {
+        return whole(draft, before + 1);
+    }
+    let mut draft = draft;
+    match end_line(&mut draft, part, before) {
+        Err(_) => Err(ReadEnd::NoMemory),
+        Ok(Some(bad)) => Err(ReadEnd::Bad(bad)),
+        Ok(None) => whole(draft, before + 2),
+    }
 }

@@ -1,83 +1,94 @@
-use crate::read::{LONGEST, read};
-use crate::script::{ReadEnd, Script};
+use crate::draft::Draft;
+use crate::present::Present;
+use crate::read::{bad, end_line, last_line};
+use crate::script::{Bad, ReadEnd, Script};
 use mid_base::NoMemory;
+use script_words::Kind;
 use std::alloc::Global;
-use std::marker::Model;
 
 /// Takes a script in pieces, which may be cut anywhere, and then says what all of it says.
 ///
-/// It keeps 16,777,217 bytes: the line that has the last of these is bad, so what comes behind it doesn't matter.
+/// It keeps the line that isn't over yet, and what the lines before it say. Contracts see it as what the script will be for
+/// each text that may still come.
 #[derive(Drop)]
 pub struct Reader {
-    text: Vec<u8>,
+    draft: Draft,
+    present: Present,
+    bad: Option<Bad>,
     failed: bool,
-    alloc: Global,
-}
-
-impl Model for Reader {
-    ghost use Rattle.std.specs.Prelude.{◌≤◌, length};
-    ghost use Rattle.script_text.specs.Fed.{Fed};
-
-    ghost Value = { Fed };
-
-    ghost view = { λ r. record { text = r.text.items; failed = r.failed } };
-
-    ghost invariant = { λ r. length r.text.items ≤ 16777217 };
 }
 
 impl Reader {
-    ghost use Rattle.std.specs.Prelude.{◌≡◌, OnOk, OnErr, IsErr, IfOk, true, false, Err};
-    ghost use Rattle.script_text.specs.Fed.{unfed, fed};
-    ghost use Rattle.script_text.specs.Reads.{Reads};
-    ghost use Rattle.script_text.specs.Playable.{IsPlayable};
+    ghost use Rattle.std.specs.Prelude.{◌≡◌, ℕ, List, ◌∷◌, ◌++◌, [], OnOk, OnErr, IsErr, true, false, Err};
+    ghost use Rattle.script_text.specs.Script.{script_of};
+    ghost use Rattle.script_text.specs.Told.{says};
+    ghost use Rattle.script_text.specs.Reads.{Answers};
 
     /// A reader of no bytes so far.
     pub fn new(alloc: Global) -> Reader
-        ensures { result ≡ unfed }
+        ensures says { (text : List ℕ) → says result text ≡ script_of text }
+        ensures failed { result.failed ≡ false }
     {
         Reader {
-            text: Vec::new(alloc),
+            draft: Draft::new(alloc),
+            present: Present::new(alloc),
+            bad: None,
             failed: false,
-            alloc,
         }
     }
 
     /// Takes the next piece. Where an allocation fails, each later call fails too, and so does `finish`.
-    #[tactic(auto, using(crate::proofs::Counted::counted_end))]
     pub fn feed(&mut self, piece: &[u8]) -> Result<(), NoMemory>
-        ensures ok { OnOk result ((self.old.failed ≡ false) × (self.new ≡ fed self.old piece.now)) }
+        ensures ok { OnOk result ((self.old.failed ≡ false) × (self.new.failed ≡ false)) }
+        ensures says { OnOk result ((more : List ℕ) → says self.new more ≡ says self.old (piece.now ++ more)) }
         ensures err { OnErr result (self.new.failed ≡ true) }
         ensures failed { self.old.failed ≡ true → IsErr result }
     {
         if self.failed {
             return Err(NoMemory);
         }
-        let room = LONGEST + 1 - self.text.len();
-        let taken = room.min(piece.len());
-        match self.text.extend_from_slice(&piece[..taken]) {
-            Ok(()) => Ok(()),
-            Err(_) => {
+        for b in piece {
+            if self.take_byte(*b).is_err() {
                 self.failed = true;
-                Err(NoMemory)
+                return Err(NoMemory);
             }
         }
+        Ok(())
+    }
+
+    /// Takes the next byte. Bytes behind a bad line say nothing.
+    #[tactic(auto, using(crate::proofs::Telling::limit_told, crate::proofs::Telling::byte_told, crate::proofs::Telling::newline_told), unfolding(crate::specs::Told::says))]
+    fn take_byte(&mut self, b: u8) -> Result<(), NoMemory>
+        ensures failed { self.new.failed ≡ self.old.failed }
+        ensures says { OnOk result ((more : List ℕ) → says self.new more ≡ says self.old (b ∷ more)) }
+    {
+        if self.bad.is_some() {
+            return Ok(());
+        }
+        if self.present.is_full() {
+            self.bad = Some(bad(self.present.before + 1, Kind::Limit));
+            return Ok(());
+        }
+        if b != b'\n' {
+            return self.present.push(b);
+        }
+        self.bad = end_line(&mut self.draft, &self.present.part, self.present.before)?;
+        self.present.end();
+        Ok(())
     }
 
     /// What the bytes say that were fed: a script that can be played, or the first bad line.
-    #[tactic(auto, using(crate::proofs::Sound::script_plays))]
+    #[tactic(auto, using(crate::proofs::Telling::end_told), unfolding(crate::specs::Told::says))]
     pub fn finish(self) -> Result<Script, ReadEnd>
-        ensures read { Reads self.text result }
-        ensures playable { IfOk result IsPlayable }
+        ensures read { Answers (says self []) result }
         ensures failed { self.failed ≡ true → result ≡ Err ReadEnd.NoMemory }
     {
-        let Reader {
-            text,
-            failed,
-            alloc,
-        } = self;
-        if failed {
+        if self.failed {
             return Err(ReadEnd::NoMemory);
         }
-        read(alloc, &text)
+        if let Some(bad) = self.bad {
+            return Err(ReadEnd::Bad(bad));
+        }
+        last_line(self.draft, &self.present.part, self.present.before)
     }
 }

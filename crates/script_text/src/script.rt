@@ -5,22 +5,22 @@ use mid_base::{DevAddr, HostNo, HostSpec, Rows, Step};
 pub struct Script {
     /// The hosts, in the order of their lines.
     pub hosts: Rows<HostSpec>,
-    /// The devices that are found by scanning.
+    /// The devices that are found by scanning. There are none yet.
     pub scans: Rows<(HostNo, DevAddr)>,
     /// The steps, each with the number of its line, counted from 1, and its host.
     pub steps: Rows<(u64, HostNo, Step)>,
     /// How many rounds are run at most.
     pub budget: Option<u64>,
-    /// Whether the hosts are run on behind the last step, until nothing is left to do.
+    /// Whether the hosts are run on behind the last step, until nothing is left to do. It can't be said yet.
     pub drain: bool,
 }
 
 /// The first bad line of a script.
 #[derive(Clone, Copy, PartialEq, Eq, Debug)]
 pub struct Bad {
-    /// Its number, counted from 1. It is the number of lines plus 1 where lines lack.
+    /// Its number, counted from 1. It is the number of lines plus 1 where the last line lacks.
     pub line: u64,
-    /// Why it is bad: 1 where it isn't what it has to be there, 8 where it has byte 16,777,217.
+    /// Why it is bad, 1 to 10, by the table of kinds.
     pub kind: u8,
 }
 

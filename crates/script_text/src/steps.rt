@@ -1,32 +1,24 @@
-ghost use Rattle.std.specs.Prelude.{◌≡◌};
-ghost use Rattle.script_text.specs.Pieces.{parts_left};
+ghost use Rattle.script_words.specs.Pieces.{words};
 ghost use Rattle.script_text.specs.Said.{Said};
-ghost use Rattle.script_text.specs.Gives.{seen, StepGives};
+ghost use Rattle.script_text.specs.Gives.{StepGives};
 
-use crate::draft::Draft;
-use crate::kind::Kind;
-use crate::pieces::Parts;
-use crate::slots::{exactly, no_more, number_in};
-use crate::words::{StepName, step_name_of};
+use crate::ends::no_more;
+use crate::host_draft::HostDraft;
+use crate::names::{lane_in, unit_in};
 use mid_base::{Attempt, By, LaneNo, Step};
+use script_words::{Kind, StepName, Words, exactly, number_in, state_in, step_name_in};
 
 // The numbers of attempts are below 2^60.
 const LAST_ATTEMPT: u128 = 1_152_921_504_606_846_975;
 
-/// The step that these words name.
-pub fn step_in(draft: &Draft, rest: Parts) -> Result<Step, Kind>
-    ensures { StepGives (seen draft.now) (parts_left rest.entry.separator rest.entry.rest) result }
+/// The step of this host that these words name.
+pub fn step_in(host: &HostDraft, rest: Words) -> Result<Step, Kind>
+    ensures { (said : Said) → StepGives said host.now (words rest.entry.rest.now) result }
 {
     let mut words = rest;
-    let Some(word) = words.next() else {
-        return Err(Kind::Word);
-    };
-    let Some(name) = step_name_of(word) else {
-        return Err(Kind::Word);
-    };
-    match name {
+    match step_name_in(words.next())? {
         StepName::Submit => {
-            let lane = number_in(words.next(), 0, 0)?;
+            let lane = lane_in(host, words.next())?;
             no_more(words.next())?;
             Ok(Step::Submit(LaneNo(lane as u8)))
         }
@@ -52,6 +44,12 @@ pub fn step_in(draft: &Draft, rest: Parts) -> Result<Step, Kind>
         StepName::Tick => {
             no_more(words.next())?;
             Ok(Step::Tick)
+        }
+        StepName::State => {
+            let dev = unit_in(host, words.next())?;
+            let state = state_in(words.next())?;
+            no_more(words.next())?;
+            Ok(Step::SetState(dev, state))
         }
     }
 }

@@ -1,20 +1,22 @@
 ghost use Rattle.std.specs.Prelude.{◌<◌};
 
-use crate::{Bad, ReadEnd, Reader, Script, counted_bytes_say_all, good_scripts_are_playable};
-use bitflags::Flags;
-use mid_base::{
-    Attempt, By, CdbBytes, CmdId, CmdSpec, DevAddr, DeviceState, HostNo, LaneNo, LunSpec, Step,
+use crate::bad_rows::{
+    COMMAND_LINES, HOST_LINES, PLAN_LINES, STEP_LINES, TWO_HOST_LINES, UNIT_LINES, VALUE_LINES,
+    WHOLE,
 };
+use crate::{Bad, ReadEnd, Reader, Script};
 use std::alloc::Global;
 use std::test::Fail;
 
-const FIRST: &str = "host 0 4 adtbh\nlun 0 0:0:0 2048 8\ncmd 1 0 0 0:0:0 30 5 - 000000000000\n";
-
-const STEPS: &str =
-    "step 0 submit 0\nstep 0 send\nstep 0 send\nstep 0 tick\nstep 0 work\nstep 0 own 1 answer\nstep 0 settle 1\nend stop\n";
+pub const HOST: &str = "host 0 4 adtbh\n";
+pub const UNIT: &str = "host 0 4 adtbh\nlun 0 0:0:0 2048 8\n";
+pub const COMMAND: &str =
+    "host 0 4 adtbh\nlun 0 0:0:0 2048 8\ncmd 1 0 0 0:0:0 30 5 - 000000000000\n";
+pub const TWO_HOSTS: &str =
+    "host 0 4 adtbh\nlun 0 0:0:0 2048 8\ncmd 1 0 0 0:0:0 30 5 - 000000000000\nhost 1 1 -\nlun 1 0:0:1 8 8\n";
 
 /// Reads texts one after the other, in pieces of `size` bytes.
-fn read(alloc: Global, texts: &[&str], size: usize) -> Result<Script, ReadEnd>
+pub fn read(alloc: Global, texts: &[&str], size: usize) -> Result<Script, ReadEnd>
     requires { 0 < size }
 {
     let mut reader = Reader::new(alloc);
@@ -28,200 +30,56 @@ fn read(alloc: Global, texts: &[&str], size: usize) -> Result<Script, ReadEnd>
     reader.finish()
 }
 
-#[test]
-fn a_good_script_says_its_host_and_steps(rt: HostRuntime) -> Result<(), Fail> {
-    let dev = DevAddr {
-        channel: 0,
-        target: 0,
-        lun: 0,
-    };
-    for size in [1, 7, 4096] {
-        let script = read(rt.alloc(), &[FIRST, STEPS], size)?;
-        let steps = [
-            (4, HostNo(0), Step::Submit(LaneNo(0))),
-            (5, HostNo(0), Step::Send),
-            (6, HostNo(0), Step::Send),
-            (7, HostNo(0), Step::Tick),
-            (8, HostNo(0), Step::Work),
-            (9, HostNo(0), Step::Own(Attempt(1), By::Answer)),
-            (10, HostNo(0), Step::Settle(Attempt(1))),
-        ];
-        assert_eq!(rt; script.steps.as_slice(), steps.as_slice());
-        assert!(rt; script.scans.is_empty());
-        assert_eq!(rt; script.budget, None);
-        assert!(rt; !script.drain);
-        let [host] = script.hosts.as_slice() else {
-            return Err("one host".into());
-        };
-        assert_eq!(rt; host.no, HostNo(0));
-        assert_eq!(rt; host.can_queue, 4);
-        assert_eq!(rt; host.handlers.bits(), 31);
-        assert!(rt; !host.no_async_abort);
-        assert!(rt; host.plan.is_empty());
-        let lun = LunSpec {
-            dev,
-            blocks: 2048,
-            depth: 8,
-            read_only: false,
-            stopped: false,
-            start: DeviceState::Running,
-        };
-        assert_eq!(rt; host.luns.as_slice(), [lun].as_slice());
-        let command = CmdSpec {
-            id: CmdId(1),
-            lane: LaneNo(0),
-            dev,
-            cdb: CdbBytes::from_slice(&[0; 6]),
-            fill: 0,
-            timeout: 30,
-            allowed: 5,
-            failfast: false,
-        };
-        assert_eq!(rt; host.cmds.as_slice(), [command].as_slice());
-    }
-    good_scripts_are_playable();
-    counted_bytes_say_all();
-    Ok(())
+pub fn bad(line: u64, kind: u8) -> Option<ReadEnd> {
+    Some(ReadEnd::Bad(Bad { line, kind }))
 }
 
 #[test]
-fn limits_and_leading_zeros_are_good(rt: HostRuntime) -> Result<(), Fail> {
-    let table = [
-        ("host 0 1 -\n", 0),
-        ("host 00 1024 a\n", 1),
-        ("host 00000000000000000000 0001 h\n", 16),
-        ("host 0 4 db\n", 10),
-        ("host 0 4 ath\n", 21),
-    ];
-    let rest =
-        "lun 000 15:0255:16383 4294967295 01024\ncmd 4294967295 0 00 015:255:016383 10000 020 - 000000000000\nstep 00 own 1152921504606846975 answer\nend stop";
-    for (first, bits) in table {
-        let script = read(rt.alloc(), &[first, rest], 4096)?;
-        let [host] = script.hosts.as_slice() else {
-            return Err("one host".into());
-        };
-        assert_eq!(rt; host.handlers.bits(), bits, "in {first}");
-        let [lun] = host.luns.as_slice() else {
-            return Err("one unit".into());
-        };
-        assert_eq!(rt;
-            (lun.dev.channel, lun.dev.target, lun.dev.lun),
-            (15, 255, 16_383)
-        );
-        assert_eq!(rt; (lun.blocks, lun.depth), (4_294_967_295, 1024));
-        let step = Step::Own(Attempt(1_152_921_504_606_846_975), By::Answer);
-        assert_eq!(rt; script.steps.as_slice(), [(4, HostNo(0), step)].as_slice());
+fn whole_scripts_are_bad_at_their_first_bad_line(rt: HostRuntime) {
+    for (text, line, kind) in WHOLE {
+        for size in [1, 7, 16] {
+            let end = read(rt.alloc(), &[text], size).err();
+            assert_eq!(rt; end, bad(line, kind), "in {text}");
+        }
     }
-    Ok(())
 }
 
 #[test]
-fn the_first_bad_line_counts(rt: HostRuntime) {
-    let host = "host 0 4 adtbh\n";
-    let unit = "host 0 4 adtbh\nlun 0 0:0:0 2048 8\n";
-    let table = [
-        // lines that lack
-        ("", "", 1),
-        ("host 0 4 adtbh", "", 2),
-        (host, "lun 0 0:0:0 2048 8\n", 3),
-        (FIRST, "", 4),
-        (FIRST, "step 0 send\n", 5),
-        // lines that are something else
-        ("\n", "", 1),
-        ("# a remark\n", FIRST, 1),
-        ("HOST 0 4 adtbh\n", "", 1),
-        (host, "hello\n", 2),
-        (host, host, 2),
-        (host, "cmd 1 0 0 0:0:0 30 5 - 000000000000\n", 2),
-        (unit, "lun 0 0:0:1 2048 8\n", 3),
-        (unit, "step 0 send\n", 3),
-        (FIRST, "\nend stop\n", 4),
-        (FIRST, "budget 5\nend stop\n", 4),
-        (FIRST, "end stop\n\n", 5),
-        (FIRST, "end stop\nend stop\n", 5),
-        (FIRST, "step 0 send\nend stop\n# over\n", 6),
-        // spaces
-        (" host 0 4 adtbh\n", "", 1),
-        ("host  0 4 adtbh\n", "", 1),
-        ("host\t0 4 adtbh\n", "", 1),
-        ("host 0 4 adtbh \n", "", 1),
-        ("host 0 4 adtbh\r\n", "", 1),
-        // the host
-        ("host 64 4 adtbh\n", "", 1),
-        ("host x 4 adtbh\n", "", 1),
-        ("host 000000000000000000000 4 adtbh\n", "", 1),
-        ("host 0 0 adtbh\n", "", 1),
-        ("host 0 1025 adtbh\n", "", 1),
-        ("host 0 18446744073709551620 adtbh\n", "", 1),
-        ("host 0 4 da\n", "", 1),
-        ("host 0 4 aa\n", "", 1),
-        ("host 0 4 -a\n", "", 1),
-        ("host 0 4 x\n", "", 1),
-        ("host 0 4 \n", "", 1),
-        ("host 0 4\n", "", 1),
-        ("host 0 4 adtbh noasync\n", "", 1),
-        // the unit
-        (host, "lun 1 0:0:0 2048 8\n", 2),
-        (host, "lun 0 16:0:0 2048 8\n", 2),
-        (host, "lun 0 0:256:0 2048 8\n", 2),
-        (host, "lun 0 0:0:16384 2048 8\n", 2),
-        (host, "lun 0 0:0 2048 8\n", 2),
-        (host, "lun 0 0:0:0:0 2048 8\n", 2),
-        (host, "lun 0 0::0 2048 8\n", 2),
-        (host, "lun 0 0:0:0 0 8\n", 2),
-        (host, "lun 0 0:0:0 4294967296 8\n", 2),
-        (host, "lun 0 0:0:0 2048 0\n", 2),
-        (host, "lun 0 0:0:0 2048 1025\n", 2),
-        (host, "lun 0 0:0:0 2048 8 ro\n", 2),
-        // the command
-        (unit, "cmd 0 0 0 0:0:0 30 5 - 000000000000\n", 3),
-        (unit, "cmd 4294967296 0 0 0:0:0 30 5 - 000000000000\n", 3),
-        (unit, "cmd 1 1 0 0:0:0 30 5 - 000000000000\n", 3),
-        (unit, "cmd 1 0 1 0:0:0 30 5 - 000000000000\n", 3),
-        (unit, "cmd 1 0 0 0:0:1 30 5 - 000000000000\n", 3),
-        (unit, "cmd 1 0 0 0:0:0 0 5 - 000000000000\n", 3),
-        (unit, "cmd 1 0 0 0:0:0 10001 5 - 000000000000\n", 3),
-        (unit, "cmd 1 0 0 0:0:0 30 21 - 000000000000\n", 3),
-        (unit, "cmd 1 0 0 0:0:0 30 5 failfast 000000000000\n", 3),
-        (unit, "cmd 1 0 0 0:0:0 30 5 - 00000000000\n", 3),
-        (unit, "cmd 1 0 0 0:0:0 30 5 - 0000000000000\n", 3),
-        (unit, "cmd 1 0 0 0:0:0 30 5 - 120000002400\n", 3),
-        (unit, "cmd 1 0 0 0:0:0 30 5 - 000000000000 00\n", 3),
-        // the steps and the end
-        (FIRST, "step 1 send\n", 4),
-        (FIRST, "step 0\n", 4),
-        (FIRST, "step 0 submit\n", 4),
-        (FIRST, "step 0 submit 1\n", 4),
-        (FIRST, "step 0 send now\n", 4),
-        (FIRST, "step 0 due\n", 4),
-        (FIRST, "step 0 own 1 expiry\n", 4),
-        (FIRST, "step 0 own 1\n", 4),
-        (FIRST, "step 0 own 1152921504606846976 answer\n", 4),
-        (FIRST, "step 0 settle 1152921504606846976\n", 4),
-        (FIRST, "step 0 tick\nstep 0 drop 1\n", 5),
-        (FIRST, "end\n", 4),
-        (FIRST, "end drain\n", 4),
-        (FIRST, "end stop now\n", 4),
-    ];
-    for (first, second, line) in table {
-        let end = read(rt.alloc(), &[first, second], 7).err();
-        assert_eq!(rt;
-            end,
-            Some(ReadEnd::Bad(Bad { line, kind: 1 })),
-            "in {first}{second}"
-        );
+fn bad_lines_of_hosts_units_and_plans_have_their_kinds(rt: HostRuntime) {
+    for (text, kind) in HOST_LINES {
+        assert_eq!(rt; read(rt.alloc(), &[text], 7).err(), bad(1, kind), "in {text}");
+    }
+    for (text, kind) in UNIT_LINES {
+        assert_eq!(rt; read(rt.alloc(), &[HOST, text], 7).err(), bad(2, kind), "in {text}");
+    }
+    for (text, kind) in PLAN_LINES {
+        assert_eq!(rt; read(rt.alloc(), &[UNIT, text], 7).err(), bad(3, kind), "in {text}");
+    }
+    for (text, kind) in VALUE_LINES {
+        assert_eq!(rt; read(rt.alloc(), &[UNIT, text], 7).err(), bad(3, kind), "in {text}");
     }
 }
 
-/// Why a text with so many bytes `x` in its midst is bad.
-fn read_long(alloc: Global, first: &str, count: usize, last: &str) -> Option<ReadEnd> {
+#[test]
+fn bad_lines_of_commands_and_steps_have_their_kinds(rt: HostRuntime) {
+    for (text, kind) in COMMAND_LINES {
+        assert_eq!(rt; read(rt.alloc(), &[UNIT, text], 7).err(), bad(3, kind), "in {text}");
+    }
+    for (text, kind) in STEP_LINES {
+        assert_eq!(rt; read(rt.alloc(), &[COMMAND, text], 7).err(), bad(4, kind), "in {text}");
+    }
+    for (text, kind) in TWO_HOST_LINES {
+        assert_eq!(rt; read(rt.alloc(), &[TWO_HOSTS, text], 7).err(), bad(6, kind), "in {text}");
+    }
+}
+
+/// Why a text is bad that has `line` so many times between its first and its last part.
+fn read_many(alloc: Global, first: &str, line: &[u8], count: usize, last: &str) -> Option<ReadEnd> {
     let mut reader = Reader::new(alloc);
     let mut answers = reader.feed(first.as_bytes()).is_ok();
-    let block = [b'x'; 4096];
-    for _ in 0..count / 4096 {
-        answers = reader.feed(&block).is_ok() && answers;
+    for _ in 0..count {
+        answers = reader.feed(line).is_ok() && answers;
     }
-    answers = reader.feed(&block[..count % 4096]).is_ok() && answers;
     answers = reader.feed(last.as_bytes()).is_ok() && answers;
     if answers {
         reader.finish().err()
@@ -232,17 +90,33 @@ fn read_long(alloc: Global, first: &str, count: usize, last: &str) -> Option<Rea
 
 #[test]
 fn the_line_behind_the_limit_is_too_long(rt: HostRuntime) {
-    // Each text goes on with this many bytes `x`, and `last`.
+    // 4,096 blocks of 4,096 bytes are 16,777,216, which is the most.
+    let remarks = [b'#'; 4096];
+    let end = read_many(rt.alloc(), "", &remarks, 4096, "");
+    assert_eq!(rt; end, bad(2, 9));
+    let end = read_many(rt.alloc(), "", &remarks, 4096, "\n");
+    assert_eq!(rt; end, bad(1, 8));
+}
+
+#[test]
+fn a_bad_line_before_the_limit_wins(rt: HostRuntime) {
+    let block = [b'x'; 4096];
+    let end = read_many(rt.alloc(), "hello\n", &block, 4096, "");
+    assert_eq!(rt; end, bad(1, 1));
+    let end = read_many(rt.alloc(), "end stop\n", &block, 4096, "");
+    assert_eq!(rt; end, bad(2, 8));
+}
+
+#[test]
+fn a_line_above_its_count_is_too_many(rt: HostRuntime) {
+    let plan = b"plan 0 0:0:0 busy 1 1 1\n";
     let table = [
-        ("", 16_777_216, "", 1, 1),
-        ("", 16_777_216, "\n", 1, 8),
-        (FIRST, 16_777_146, "x\nend stop\n", 4, 8),
-        ("hello\n", 16_777_216, "", 1, 1),
+        (65_536, "end stop\n", None),
+        (65_536, "plan\nend stop\n", bad(65_539, 8)),
+        (65_536, "end stop\nplan\n", bad(65_540, 10)),
     ];
-    for (first, count, last, line, kind) in table {
-        assert_eq!(rt;
-            read_long(rt.alloc(), first, count, last),
-            Some(ReadEnd::Bad(Bad { line, kind }))
-        );
+    for (count, last, wanted) in table {
+        let end = read_many(rt.alloc(), UNIT, plan, count, last);
+        assert_eq!(rt; end, wanted, "before {last}");
     }
 }

@@ -1,7 +1,7 @@
 use Rattle.std.proofs.Common.{◌≡◌, ◌++◌, ap, sym, ◌∙◌}
-use Rattle.script_text.specs.Fed.{Fed, counted}
-use Rattle.script_text.specs.Script.{script_of}
-use Rattle.script_text.proofs.Counted.{counted_says_all}
+use Rattle.first_script.specs.Fed.{Fed, counted}
+use Rattle.first_script.specs.Script.{script_of}
+use Rattle.first_script.proofs.Counted.{counted_says_all}
 use Rattle.play_top.proofs.reading.script_in.Goals as goal
 
 pub returns-in-Ok-finish : goal.returns-in-Ok-finish

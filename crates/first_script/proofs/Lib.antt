@@ -1,0 +1,5 @@
+pub mod Cuts
+pub mod Letters
+pub mod Counted
+pub mod Fitting
+pub mod Sound

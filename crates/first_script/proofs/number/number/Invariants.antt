@@ -1,0 +1,11 @@
+use Rattle.std.proofs.Common.{◌≡◌, ◌<◌, ◌^◌, take, true}
+use Rattle.std.specs.List.{list_all}
+use Rattle.first_script.specs.Pieces.{value_of, is_digit}
+use Rattle.first_script.proofs.number.number.Given as goal
+
+abbrev pub invariant-loop-b : goal.invariant-loop-b
+invariant-loop-b l = record {
+  value : l.n ≡ value_of (take l.b-index l.word);
+  digits : list_all is_digit (take l.b-index l.word) ≡ true;
+  small : l.n < 10 ^ l.b-index;
+}

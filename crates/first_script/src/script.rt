@@ -1,0 +1,32 @@
+use mid_base::{DevAddr, HostNo, HostSpec, Rows, Step};
+
+/// What a good script says.
+#[derive(Debug, Drop)]
+pub struct Script {
+    /// The hosts, in the order of their lines.
+    pub hosts: Rows<HostSpec>,
+    /// The devices that are found by scanning.
+    pub scans: Rows<(HostNo, DevAddr)>,
+    /// The steps, each with the number of its line, counted from 1, and its host.
+    pub steps: Rows<(u64, HostNo, Step)>,
+    /// How many rounds are run at most.
+    pub budget: Option<u64>,
+    /// Whether the hosts are run on behind the last step, until nothing is left to do.
+    pub drain: bool,
+}
+
+/// The first bad line of a script.
+#[derive(Clone, Copy, PartialEq, Eq, Debug)]
+pub struct Bad {
+    /// Its number, counted from 1. It is the number of lines plus 1 where lines lack.
+    pub line: u64,
+    /// Why it is bad: 1 where it isn't what it has to be there, 8 where it has byte 16,777,217.
+    pub kind: u8,
+}
+
+/// Why a script was not read: it is bad, or an allocation failed.
+#[derive(Clone, Copy, PartialEq, Eq, Debug)]
+pub enum ReadEnd {
+    Bad(Bad),
+    NoMemory,
+}

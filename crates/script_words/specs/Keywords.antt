@@ -1,0 +1,79 @@
+-- The words that name lines, steps, faults and states.
+use Rattle.std.specs.Prelude.{ℕ, ◌==◌, Bool, true, false, if◌then◌else◌, List, [], ◌∷◌, Option, Some, None, codes}
+use Rattle.std.specs.Str.{bytes_eq}
+use Rattle.mid_base.specs.declared.states.DeviceState.{DeviceState}
+use Rattle.mid_base.specs.declared.states.DeviceState.TheVariants as states
+use Rattle.script_words.specs.declared.keywords.Keyword.{Keyword}
+use Rattle.script_words.specs.declared.keywords.Keyword.TheVariants as lines
+use Rattle.script_words.specs.declared.keywords.StepName.{StepName}
+use Rattle.script_words.specs.declared.keywords.StepName.TheVariants as steps
+use Rattle.script_words.specs.declared.plan_kinds.PlanKind.{PlanKind}
+use Rattle.script_words.specs.declared.plan_kinds.PlanKind.TheVariants as plans
+
+-- a remark, as a first word
+abbrev pub is_remark : List ℕ → Bool
+is_remark [] = false
+is_remark (b ∷ bs) = b == 35
+
+-- the first word of a line
+unfoldable pub keyword : List ℕ → Option Keyword
+keyword word =
+    if bytes_eq word (codes "host") then Some lines.HostLine
+    else if bytes_eq word (codes "lun") then Some lines.LunLine
+    else if bytes_eq word (codes "plan") then Some lines.PlanLine
+    else if bytes_eq word (codes "cmd") then Some lines.CommandLine
+    else if bytes_eq word (codes "step") then Some lines.StepLine
+    else if bytes_eq word (codes "budget") then Some lines.BudgetLine
+    else if bytes_eq word (codes "end") then Some lines.EndLine
+    else None
+
+-- the word that names a step
+unfoldable pub step_name : List ℕ → Option StepName
+step_name word =
+    if bytes_eq word (codes "submit") then Some steps.Submit
+    else if bytes_eq word (codes "send") then Some steps.Send
+    else if bytes_eq word (codes "work") then Some steps.Work
+    else if bytes_eq word (codes "own") then Some steps.Own
+    else if bytes_eq word (codes "settle") then Some steps.Settle
+    else if bytes_eq word (codes "tick") then Some steps.Tick
+    else if bytes_eq word (codes "state") then Some steps.State
+    else None
+
+-- the word that names a planned fault
+unfoldable pub plan_kind : List ℕ → Option PlanKind
+plan_kind word =
+    if bytes_eq word (codes "hostbusy") then Some plans.HostBusy
+    else if bytes_eq word (codes "busy") then Some plans.Busy
+    else if bytes_eq word (codes "latency") then Some plans.Latency
+    else if bytes_eq word (codes "never") then Some plans.Never
+    else if bytes_eq word (codes "check") then Some plans.Check
+    else if bytes_eq word (codes "nosense") then Some plans.NoSense
+    else if bytes_eq word (codes "raw") then Some plans.Raw
+    else if bytes_eq word (codes "status") then Some plans.Status
+    else if bytes_eq word (codes "longer") then Some plans.Longer
+    else if bytes_eq word (codes "timerdone") then Some plans.TimerDone
+    else if bytes_eq word (codes "abortfail") then Some plans.AbortFail
+    else if bytes_eq word (codes "rdev") then Some plans.Rdev
+    else if bytes_eq word (codes "rtgt") then Some plans.Rtgt
+    else if bytes_eq word (codes "rbus") then Some plans.Rbus
+    else if bytes_eq word (codes "rhost") then Some plans.Rhost
+    else if bytes_eq word (codes "silent") then Some plans.Silent
+    else None
+
+-- the word that names a state of a device
+unfoldable pub state : List ℕ → Option DeviceState
+state word =
+    if bytes_eq word (codes "running") then Some states.Running
+    else if bytes_eq word (codes "quiesce") then Some states.Quiesce
+    else if bytes_eq word (codes "block") then Some states.Block
+    else if bytes_eq word (codes "offline") then Some states.Offline
+    else if bytes_eq word (codes "cancel") then Some states.Cancel
+    else if bytes_eq word (codes "del") then Some states.Del
+    else None
+
+-- whether a command is to fail at the first error
+unfoldable pub failfast : List ℕ → Option Bool
+failfast word =
+    if bytes_eq word (codes "-") then Some false
+    else if bytes_eq word (codes "failfast") then Some true
+    else None

@@ -1,0 +1,126 @@
+ghost use Rattle.std.specs.Prelude.{◌≡◌};
+ghost use Rattle.script_words.specs.Keywords.{keyword, step_name, state, failfast};
+
+use mid_base::DeviceState;
+
+/// The kinds of lines, which their first words tell.
+#[derive(Clone, Copy, PartialEq, Eq, Debug)]
+pub enum Keyword {
+    HostLine,
+    LunLine,
+    PlanLine,
+    CommandLine,
+    StepLine,
+    BudgetLine,
+    EndLine,
+}
+
+/// The kinds of steps that a script may name.
+#[derive(Clone, Copy, PartialEq, Eq, Debug)]
+pub enum StepName {
+    Submit,
+    Send,
+    Work,
+    Own,
+    Settle,
+    Tick,
+    State,
+}
+
+/// The kind of line that begins with this word.
+#[tactic(auto, unfolding(crate::specs::Keywords::keyword))]
+pub fn keyword_of(word: &[u8]) -> Option<Keyword>
+    ensures { result ≡ keyword word.now }
+{
+    if word == b"host".as_slice() {
+        return Some(Keyword::HostLine);
+    }
+    if word == b"lun".as_slice() {
+        return Some(Keyword::LunLine);
+    }
+    if word == b"plan".as_slice() {
+        return Some(Keyword::PlanLine);
+    }
+    if word == b"cmd".as_slice() {
+        return Some(Keyword::CommandLine);
+    }
+    if word == b"step".as_slice() {
+        return Some(Keyword::StepLine);
+    }
+    if word == b"budget".as_slice() {
+        return Some(Keyword::BudgetLine);
+    }
+    if word == b"end".as_slice() {
+        return Some(Keyword::EndLine);
+    }
+    None
+}
+
+/// The kind of step that this word names.
+#[tactic(auto, unfolding(crate::specs::Keywords::step_name))]
+pub fn step_name_of(word: &[u8]) -> Option<StepName>
+    ensures { result ≡ step_name word.now }
+{
+    if word == b"submit".as_slice() {
+        return Some(StepName::Submit);
+    }
+    if word == b"send".as_slice() {
+        return Some(StepName::Send);
+    }
+    if word == b"work".as_slice() {
+        return Some(StepName::Work);
+    }
+    if word == b"own".as_slice() {
+        return Some(StepName::Own);
+    }
+    if word == b"settle".as_slice() {
+        return Some(StepName::Settle);
+    }
+    if word == b"tick".as_slice() {
+        return Some(StepName::Tick);
+    }
+    if word == b"state".as_slice() {
+        return Some(StepName::State);
+    }
+    None
+}
+
+/// The state of a device that this word names.
+#[tactic(auto, unfolding(crate::specs::Keywords::state))]
+pub fn state_of(word: &[u8]) -> Option<DeviceState>
+    ensures { result ≡ state word.now }
+{
+    if word == b"running".as_slice() {
+        return Some(DeviceState::Running);
+    }
+    if word == b"quiesce".as_slice() {
+        return Some(DeviceState::Quiesce);
+    }
+    if word == b"block".as_slice() {
+        return Some(DeviceState::Block);
+    }
+    if word == b"offline".as_slice() {
+        return Some(DeviceState::Offline);
+    }
+    if word == b"cancel".as_slice() {
+        return Some(DeviceState::Cancel);
+    }
+    if word == b"del".as_slice() {
+        return Some(DeviceState::Del);
+    }
+    None
+}
+
+/// Whether this word says that a command is to fail at the first error: `-` says no, `failfast` yes.
+#[tactic(auto, unfolding(crate::specs::Keywords::failfast))]
+pub fn failfast_of(word: &[u8]) -> Option<bool>
+    ensures { result ≡ failfast word.now }
+{
+    if word == b"-".as_slice() {
+        return Some(false);
+    }
+    if word == b"failfast".as_slice() {
+        return Some(true);
+    }
+    None
+}
