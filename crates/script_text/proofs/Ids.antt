@@ -23,9 +23,9 @@ kept_id (x ∷ xs) i j e =
             | inr g ↦
                 rw (f, g)
                 (elim (cases_Bool (x == j)) [
-                      | inl here ↦ or_left (x == j) (is_id (insert_key nat_cmp xs i) j) here
-                      | inr there ↦ or_right (x == j) (is_id (insert_key nat_cmp xs i) j) (kept_id xs i j (rw there at e))
-                    ])
+                  | inl here ↦ or_left (x == j) (is_id (insert_key nat_cmp xs i) j) here
+                  | inr there ↦ or_right (x == j) (is_id (insert_key nat_cmp xs i) j) (kept_id xs i j (rw there at e))
+                ])
           ]
     ]
 
