@@ -1,14 +1,14 @@
 -- What a good script says keeps the limits.
-use Rattle.std.proofs.Common.{◌≡◌, ℕ, ◌+◌, ◌-◌, ◌≤◌, ◌<◌, suc, Bool, true, false, not, ◌&&◌, ◌||◌, if◌then◌else◌, List, [], ◌∷◌, ◌++◌, length, Option, Some, None, Result, Ok, Err, unwrap_or, refl, sym, ap, ◌∙◌, subst, arith, inl, inr}
+use Rattle.std.proofs.Common.{◌≡◌, ℕ, ◌+◌, ◌-◌, ◌≤◌, Bool, true, false, not, ◌&&◌, List, [], ◌∷◌, ◌++◌, length, Option, Some, None, Result, Ok, Err, unwrap_or, refl, ◌∙◌, subst, arith, inl, inr}
 use Rattle.std.specs.Prelude.{◌==◌, nat_le, nat_lt, All, is_some}
 use Rattle.std.specs.List.{list_any}
 use Rattle.std.specs.Ordering.{nat_cmp}
 use Rattle.std.specs.BTreeSet.{insert_key}
-use Rattle.std.proofs.lemmas.Bool.{cases_Bool, and_from, and_parts, le-leb, leb-true, lt-ltb, ltb-true}
+use Rattle.std.proofs.lemmas.Bool.{cases_Bool, and_parts, leb-true, lt-ltb, ltb-true}
 use Rattle.std.proofs.lemmas.Bool.Decides.{nat_tests}
 use Rattle.std.proofs.lemmas.List.Elements.{All-cons, All-nil}
 use Rattle.mid_base.specs.Address.{same_dev, has_dev}
-use Rattle.mid_base.specs.Limits.{is_between, is_address, is_lun, is_command, is_fault, is_planned, KeepsLimits}
+use Rattle.mid_base.specs.Limits.{is_lun, is_command, is_fault, is_planned, KeepsLimits}
 use Rattle.mid_base.specs.declared.names.HostNo.{HostNo}
 use Rattle.mid_base.specs.declared.faults.PlanEntry.{PlanEntry}
 use Rattle.mid_base.specs.declared.host_spec.LunSpec.{LunSpec}
@@ -25,17 +25,17 @@ use Rattle.script_words.specs.declared.keywords.Keyword.TheVariants as lines
 use Rattle.script_words.specs.declared.plan_kinds.PlanKind.{PlanKind}
 use Rattle.script_words.specs.declared.plan_kinds.PlanKind.TheVariants as plans
 use Rattle.script_words.specs.Pieces.{value, words, is_last, lines as lines_of}
-use Rattle.script_words.specs.Hex.{digit, hex_half, half_value, bytes_value, cdb_of}
+use Rattle.script_words.specs.Hex.{digit, half_value, bytes_value, cdb_of}
 use Rattle.script_words.specs.Words.{handlers_value, address_value}
 use Rattle.script_words.specs.Keywords.{keyword, is_remark, plan_kind, failfast}
 use Rattle.script_words.specs.Faults.{unless_true, number_fault}
 use Rattle.script_text.specs.declared.script.Script.{Script}
 use Rattle.script_text.specs.declared.script.Bad.{Bad}
-use Rattle.script_text.specs.Said.{Said, nothing, passes, host_of, is_unit, is_id, with_unit, with_planned, with_command, on_host}
+use Rattle.script_text.specs.Said.{Said, nothing, host_of, with_unit, with_planned, with_command, on_host}
 use Rattle.script_text.specs.Slots.{slots, some_fault_slots, or_else, first_fault, is_read_only, is_stopped}
-use Rattle.script_text.specs.Adds.{adds, step_in, fault_of, some_fault_of, is_more, fill_of}
+use Rattle.script_text.specs.Adds.{adds, step_in, some_fault_of, is_more, fill_of}
 use Rattle.script_text.specs.Script.{is_again, is_full, keyword_fault, unless, judge_slots, after_keyword, judge_rest, judge, whole, at_line, after_line, counted, judge_lines, script_of}
-use Rattle.script_text.specs.Playable.{IsStepOn, IsStepOnSome, IsStepOf, differ_in_number, IsPlayable}
+use Rattle.script_text.specs.Playable.{IsStepOf, differ_in_number, IsPlayable}
 use Rattle.script_text.proofs.Grown.{any_kept, numbers_more, true_not}
 use Rattle.script_text.proofs.Ids.{one_more_id}
 use Rattle.script_text.proofs.Kept.{HostKeeps, more_ids, more_plans, unit_keeps, planned_keeps, command_keeps, host_limits, Each, each_more, each_where, each_on, numbers_differ, none_named, Widens, step_stays, step_before}
