@@ -1,8 +1,7 @@
 -- The part of a text that counts.
-use Rattle.std.proofs.Common.{◌≡◌, ℕ, suc, Bool, ◌+◌, ◌-◌, ◌≤◌, List, ◌++◌, length, take, min, sym, ap, ◌∙◌, arith, nat_lt, inl, inr}
-use Rattle.std.proofs.lemmas.List.{take_all, take_min, take-append-le, length-take, length-take-le}
+use Rattle.std.proofs.Common.{◌≡◌, ℕ, suc, Bool, List, length, take, sym, ap, ◌∙◌, arith, nat_lt, inl, inr}
+use Rattle.std.proofs.lemmas.List.{take_all, length-take, length-take-le}
 use Rattle.std.proofs.lemmas.Bool.{cases_lt, lt-ltb}
-use Rattle.std.proofs.Math.Seq.{take-append-add}
 use Rattle.script_words.specs.Pieces.{lines}
 use Rattle.script_text.specs.Said.{nothing}
 use Rattle.script_text.specs.Script.{counted, judge_lines, script_of}

@@ -1,5 +1,5 @@
 -- What the words of a line without a fault are like, each at its place.
-use Rattle.std.proofs.Common.{◌≡◌, ℕ, ◌<◌, ◌≤◌, lit<, Bool, true, false, not, List, [], ◌∷◌, Option, Some, None, unwrap_or, refl, sym, ◌∙◌, arith}
+use Rattle.std.proofs.Common.{◌≡◌, ℕ, ◌<◌, lit<, Bool, true, false, not, List, [], ◌∷◌, Option, Some, None, unwrap_or, refl, arith}
 use Rattle.std.proofs.lemmas.Bool.{leb-true, and_parts}
 use Rattle.std.specs.Prelude.{◌^◌, ◌-◌, nat_le, nat_lt, length, is_some}
 use Rattle.mid_base.specs.Limits.{is_between, is_address}

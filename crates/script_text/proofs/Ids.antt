@@ -1,5 +1,5 @@
 -- The ids of the commands so far, in ascending order, and one more.
-use Rattle.std.proofs.Common.{◌≡◌, ℕ, suc, Bool, true, false, ◌||◌, List, [], ◌∷◌, length, refl, ap, arith, inl, inr, eq-eqb}
+use Rattle.std.proofs.Common.{◌≡◌, ℕ, suc, true, false, List, [], ◌∷◌, length, refl, ap, arith, inl, inr, eq-eqb}
 use Rattle.std.specs.Prelude.{◌==◌, nat_lt}
 use Rattle.std.specs.Ordering.{nat_cmp}
 use Rattle.std.specs.BTreeSet.{insert_key}
@@ -23,9 +23,9 @@ kept_id (x ∷ xs) i j e =
             | inr g ↦
                 rw (f, g)
                 (elim (cases_Bool (x == j)) [
-                      | inl here ↦ or_left (x == j) (is_id (insert_key nat_cmp xs i) j) here
-                      | inr there ↦ or_right (x == j) (is_id (insert_key nat_cmp xs i) j) (kept_id xs i j (rw there at e))
-                    ])
+                  | inl here ↦ or_left (x == j) (is_id (insert_key nat_cmp xs i) j) here
+                  | inr there ↦ or_right (x == j) (is_id (insert_key nat_cmp xs i) j) (kept_id xs i j (rw there at e))
+                ])
           ]
     ]
 

@@ -1,23 +1,20 @@
 -- Hosts within the limits stay so as lines add to them.
-use Rattle.std.proofs.Common.{◌≡◌, ℕ, ◌+◌, ◌≤◌, ◌<◌, suc, Bool, true, false, not, ◌&&◌, ◌||◌, List, [], ◌∷◌, ◌++◌, length, Option, Some, None, refl, sym, ap, ◌∙◌, subst, arith, inl, inr, length-append}
-use Rattle.std.specs.Prelude.{◌==◌, nat_le, nat_lt, All}
+use Rattle.std.proofs.Common.{◌≡◌, ℕ, ◌+◌, ◌≤◌, ◌<◌, Bool, true, false, ◌&&◌, ◌||◌, List, [], ◌∷◌, ◌++◌, length, Some, None, refl, ap, arith, inl, inr, length-append}
+use Rattle.std.specs.Prelude.{◌==◌, nat_le}
 use Rattle.std.specs.List.{list_any, list_all}
 use Rattle.std.specs.Ordering.{nat_cmp}
 use Rattle.std.specs.BTreeSet.{insert_key}
-use Rattle.std.proofs.lemmas.Bool.{cases_Bool, and_from, and_parts, le-leb, eqb-true}
+use Rattle.std.proofs.lemmas.Bool.{cases_Bool, and_parts, le-leb}
 use Rattle.mid_base.specs.Address.{same_dev, has_dev}
-use Rattle.mid_base.specs.Limits.{is_between, is_address, is_lun, is_command, is_fault, is_planned, differ_in_address, differ_in_id, KeepsLimits}
-use Rattle.mid_base.specs.declared.names.HostNo.{HostNo}
+use Rattle.mid_base.specs.Limits.{is_between, is_lun, is_command, is_fault, is_planned, differ_in_address, differ_in_id, KeepsLimits}
 use Rattle.mid_base.specs.declared.faults.PlanEntry.{PlanEntry}
 use Rattle.mid_base.specs.declared.host_spec.LunSpec.{LunSpec}
 use Rattle.mid_base.specs.declared.host_spec.CmdSpec.{CmdSpec}
 use Rattle.mid_base.specs.declared.host_spec.HostSpec.{HostSpec}
-use Rattle.mid_base.specs.declared.answers.By.TheVariants as owners
 use Rattle.mid_base.specs.declared.steps.Step.{Step}
-use Rattle.mid_base.specs.declared.steps.Step.TheVariants as steps
-use Rattle.script_text.specs.Said.{is_host, host_of, has_lane, is_id, with_unit, with_planned, with_command, on_host}
-use Rattle.script_text.specs.Playable.{IsStepOn, IsStepOnSome, IsStepOf, differ_in_number}
-use Rattle.script_text.proofs.Grown.{or_left, or_right, all_where, all_more, any_kept, addresses_more, ids_more, numbers_more, unknown_id}
+use Rattle.script_text.specs.Said.{host_of, is_id, with_unit, with_planned, with_command, on_host}
+use Rattle.script_text.specs.Playable.{IsStepOn, IsStepOnSome, differ_in_number}
+use Rattle.script_text.proofs.Grown.{all_where, all_more, any_kept, addresses_more, ids_more, unknown_id}
 use Rattle.script_text.proofs.Ids.{kept_id, own_id, one_more_id}
 
 -- a host whose commands are among these ids, with no more planned faults than these
@@ -195,9 +192,6 @@ none_named n (x ∷ xs) e =
 -- the changes that leave a host's steps possible
 abbrev pub Widens : (HostSpec → HostSpec) → Type 0
 Widens f = (h : HostSpec) (s : Step) → IsStepOn h s → IsStepOn (f h) s
-
-own_stays : (f : HostSpec → HostSpec) (h : HostSpec) (m : ℕ) → IsStepOn h (steps.Settle (record { 0 = m })) → IsStepOn (f h) (steps.Settle (record { 0 = m }))
-own_stays f h m e = e
 
 pub step_stays : (n : ℕ) (f : HostSpec → HostSpec) (hosts : List HostSpec) (m : ℕ) (s : Step) → ((h : HostSpec) → (f h).no.0 ≡ h.no.0) → Widens f → IsStepOnSome (host_of hosts m) s → IsStepOnSome (host_of (on_host n f hosts) m) s
 step_stays n f [] m s same wide e = e

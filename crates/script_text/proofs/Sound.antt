@@ -1,14 +1,14 @@
 -- What a good script says keeps the limits.
-use Rattle.std.proofs.Common.{◌≡◌, ℕ, ◌+◌, ◌-◌, ◌≤◌, ◌<◌, suc, Bool, true, false, not, ◌&&◌, ◌||◌, if◌then◌else◌, List, [], ◌∷◌, ◌++◌, length, Option, Some, None, Result, Ok, Err, unwrap_or, refl, sym, ap, ◌∙◌, subst, arith, inl, inr}
+use Rattle.std.proofs.Common.{◌≡◌, ℕ, ◌+◌, ◌-◌, ◌≤◌, Bool, true, false, not, ◌&&◌, List, [], ◌∷◌, ◌++◌, length, Option, Some, None, Result, Ok, Err, unwrap_or, refl, ◌∙◌, subst, arith, inl, inr}
 use Rattle.std.specs.Prelude.{◌==◌, nat_le, nat_lt, All, is_some}
 use Rattle.std.specs.List.{list_any}
 use Rattle.std.specs.Ordering.{nat_cmp}
 use Rattle.std.specs.BTreeSet.{insert_key}
-use Rattle.std.proofs.lemmas.Bool.{cases_Bool, and_from, and_parts, le-leb, leb-true, lt-ltb, ltb-true}
+use Rattle.std.proofs.lemmas.Bool.{cases_Bool, and_parts, leb-true, lt-ltb, ltb-true}
 use Rattle.std.proofs.lemmas.Bool.Decides.{nat_tests}
 use Rattle.std.proofs.lemmas.List.Elements.{All-cons, All-nil}
 use Rattle.mid_base.specs.Address.{same_dev, has_dev}
-use Rattle.mid_base.specs.Limits.{is_between, is_address, is_lun, is_command, is_fault, is_planned, KeepsLimits}
+use Rattle.mid_base.specs.Limits.{is_lun, is_command, is_fault, is_planned, KeepsLimits}
 use Rattle.mid_base.specs.declared.names.HostNo.{HostNo}
 use Rattle.mid_base.specs.declared.faults.PlanEntry.{PlanEntry}
 use Rattle.mid_base.specs.declared.host_spec.LunSpec.{LunSpec}
@@ -25,17 +25,17 @@ use Rattle.script_words.specs.declared.keywords.Keyword.TheVariants as lines
 use Rattle.script_words.specs.declared.plan_kinds.PlanKind.{PlanKind}
 use Rattle.script_words.specs.declared.plan_kinds.PlanKind.TheVariants as plans
 use Rattle.script_words.specs.Pieces.{value, words, is_last, lines as lines_of}
-use Rattle.script_words.specs.Hex.{digit, hex_half, half_value, bytes_value, cdb_of}
+use Rattle.script_words.specs.Hex.{digit, half_value, bytes_value, cdb_of}
 use Rattle.script_words.specs.Words.{handlers_value, address_value}
 use Rattle.script_words.specs.Keywords.{keyword, is_remark, plan_kind, failfast}
 use Rattle.script_words.specs.Faults.{unless_true, number_fault}
 use Rattle.script_text.specs.declared.script.Script.{Script}
 use Rattle.script_text.specs.declared.script.Bad.{Bad}
-use Rattle.script_text.specs.Said.{Said, nothing, passes, host_of, is_unit, is_id, with_unit, with_planned, with_command, on_host}
+use Rattle.script_text.specs.Said.{Said, nothing, host_of, with_unit, with_planned, with_command, on_host}
 use Rattle.script_text.specs.Slots.{slots, some_fault_slots, or_else, first_fault, is_read_only, is_stopped}
-use Rattle.script_text.specs.Adds.{adds, step_in, fault_of, some_fault_of, is_more, fill_of}
+use Rattle.script_text.specs.Adds.{adds, step_in, some_fault_of, is_more, fill_of}
 use Rattle.script_text.specs.Script.{is_again, is_full, keyword_fault, unless, judge_slots, after_keyword, judge_rest, judge, whole, at_line, after_line, counted, judge_lines, script_of}
-use Rattle.script_text.specs.Playable.{IsStepOn, IsStepOnSome, IsStepOf, differ_in_number, IsPlayable}
+use Rattle.script_text.specs.Playable.{IsStepOf, differ_in_number, IsPlayable}
 use Rattle.script_text.proofs.Grown.{any_kept, numbers_more, true_not}
 use Rattle.script_text.proofs.Ids.{one_more_id}
 use Rattle.script_text.proofs.Kept.{HostKeeps, more_ids, more_plans, unit_keeps, planned_keeps, command_keeps, host_limits, Each, each_more, each_where, each_on, numbers_differ, none_named, Widens, step_stays, step_before}
@@ -94,14 +94,14 @@ digit_below b =
       | inr f ↦
           rw f
           (elim (cases_Bool (nat_le 97 b && nat_le b 102)) [
-                | inl t ↦ rw t (lt-ltb (b - 87) 16 (omega (arith, leb-true b 102 (and_parts (nat_le 97 b) (nat_le b 102) t).1)))
-                | inr g ↦
-                    rw g
-                    (elim (cases_Bool (nat_le 65 b && nat_le b 70)) [
-                          | inl t ↦ rw t (lt-ltb (b - 55) 16 (omega (arith, leb-true b 70 (and_parts (nat_le 65 b) (nat_le b 70) t).1)))
-                          | inr k ↦ rw k refl
-                        ])
-              ])
+            | inl t ↦ rw t (lt-ltb (b - 87) 16 (omega (arith, leb-true b 102 (and_parts (nat_le 97 b) (nat_le b 102) t).1)))
+            | inr g ↦
+                rw g
+                (elim (cases_Bool (nat_le 65 b && nat_le b 70)) [
+                  | inl t ↦ rw t (lt-ltb (b - 55) 16 (omega (arith, leb-true b 70 (and_parts (nat_le 65 b) (nat_le b 70) t).1)))
+                  | inr k ↦ rw k refl
+                ])
+          ])
     ]
 
 half_below : (word : List ℕ) → nat_lt (half_value word) 16 ≡ true
@@ -140,18 +140,18 @@ after_host said (a ∷ b ∷ c ∷ rest) k f =
       each =
           each_more (HostKeeps said.ids said.plans) said.hosts h k.each
           (record {
-                number = number_below 0 63 a low;
-                tags = number_fits 1 1024 b f.1.0;
-                lun_count = omega arith;
-                command_count = omega arith;
-                plan_count = omega arith;
-                luns = refl;
-                addresses = refl;
-                commands = refl;
-                differ = refl;
-                known = refl;
-                plan = refl;
-              });
+            number = number_below 0 63 a low;
+            tags = number_fits 1 1024 b f.1.0;
+            lun_count = omega arith;
+            command_count = omega arith;
+            plan_count = omega arith;
+            luns = refl;
+            addresses = refl;
+            commands = refl;
+            differ = refl;
+            known = refl;
+            plan = refl;
+          });
       numbers = numbers_more said.hosts h k.numbers (none_named (value a) said.hosts (new_host_fits said a f.0));
       few_ids = k.few_ids;
       few_plans = k.few_plans;
@@ -194,9 +194,9 @@ after_plan said (a ∷ b ∷ c ∷ d ∷ g ∷ j ∷ rest) k room f =
       each =
           each_on (HostKeeps said.ids said.plans) (HostKeeps said.ids (said.plans + 1)) (value a) (with_planned p) (λ h keeps. more_plans said.ids said.plans h keeps) said.hosts
           (λ h e keeps.
-              let own : has_dev h.luns (address_value b) ≡ true = rw e at unit in
-              let good : is_planned h.luns p ≡ true = rw (own, fault, number_fits 1 65535 d f.1.1.1.0, number_fits 1 65535 g f.1.1.1.1.0, number_fits 1 65535 j f.1.1.1.1.1.0) refl in
-              planned_keeps said.ids said.plans p h good keeps)
+          let own : has_dev h.luns (address_value b) ≡ true = rw e at unit in
+          let good : is_planned h.luns p ≡ true = rw (own, fault, number_fits 1 65535 d f.1.1.1.0, number_fits 1 65535 g f.1.1.1.1.0, number_fits 1 65535 j f.1.1.1.1.1.0) refl in
+          planned_keeps said.ids said.plans p h good keeps)
           k.each;
       numbers = numbers_differ (value a) (with_planned p) said.hosts (λ h. refl) ∙ k.numbers;
       few_ids = k.few_ids;
@@ -221,9 +221,9 @@ after_command said (a ∷ b ∷ c ∷ d ∷ g ∷ j ∷ m ∷ n ∷ rest) k room
       each =
           each_on (HostKeeps said.ids said.plans) (HostKeeps (insert_key nat_cmp said.ids (value a)) said.plans) (value b) (with_command c) (λ h keeps. more_ids said.ids said.plans (value a) h id.1 keeps) said.hosts
           (λ h e keeps.
-              let own : has_dev h.luns (address_value d) ≡ true = rw e at unit in
-              let good : is_command h.luns c ≡ true = rw (own, id.0, number_below 0 63 _ f.1.1.0, number_fits 1 10000 g f.1.1.1.1.0, number_below 0 20 j f.1.1.1.1.1.0) refl in
-              command_keeps said.ids said.plans c h good id.1 keeps)
+          let own : has_dev h.luns (address_value d) ≡ true = rw e at unit in
+          let good : is_command h.luns c ≡ true = rw (own, id.0, number_below 0 63 _ f.1.1.0, number_fits 1 10000 g f.1.1.1.1.0, number_below 0 20 j f.1.1.1.1.1.0) refl in
+          command_keeps said.ids said.plans c h good id.1 keeps)
           k.each;
       numbers = numbers_differ (value b) (with_command c) said.hosts (λ h. refl) ∙ k.numbers;
       few_ids = grind (arith, nat_tests, one_more_id said.ids (value a) id.1);
@@ -302,12 +302,12 @@ whole_plays n said s k e =
           let same : ◌≡◌ {A = Script} (record { hosts = said.hosts; scans = []; steps = said.steps; budget = said.budget; drain = false }) s = cc h in
           subst IsPlayable same
           (record {
-                limits = each_all KeepsLimits said.hosts (each_where (HostKeeps said.ids said.plans) KeepsLimits (λ g keeps. host_limits said.ids said.plans g k.few_ids k.few_plans keeps) said.hosts k.each);
-                numbers = k.numbers;
-                steps = steps_all said.hosts said.steps k.steps;
-                no_scan = refl;
-                no_drain = refl;
-              })
+            limits = each_all KeepsLimits said.hosts (each_where (HostKeeps said.ids said.plans) KeepsLimits (λ g keeps. host_limits said.ids said.plans g k.few_ids k.few_plans keeps) said.hosts k.each);
+            numbers = k.numbers;
+            steps = steps_all said.hosts said.steps k.steps;
+            no_scan = refl;
+            no_drain = refl;
+          })
       | inr f ↦ absurd (let h = rw f at e in cc h)
     ]
 

@@ -1,6 +1,5 @@
 -- What a good line adds.
-use Rattle.std.specs.Prelude.{ℕ, ◌+◌, true, false, Bool, List, [], ◌∷◌, ◌++◌, Option, Some, None, unwrap_or, codes}
-use Rattle.std.specs.Str.{bytes_eq}
+use Rattle.std.specs.Prelude.{ℕ, ◌+◌, true, false, Bool, List, [], ◌∷◌, ◌++◌, Option, Some, None, unwrap_or}
 use Rattle.std.specs.List.{list_any}
 use Rattle.std.specs.Ordering.{nat_cmp}
 use Rattle.std.specs.BTreeSet.{insert_key}
@@ -79,37 +78,37 @@ adds said lines.HostLine (number ∷ can_queue ∷ callbacks ∷ rest) =
 adds said lines.LunLine (host ∷ unit ∷ blocks ∷ depth ∷ flags) =
     record said {
       hosts = on_host (value host) (with_unit (record {
-            dev = address_value unit;
-            blocks = value blocks;
-            depth = value depth;
-            read_only = list_any is_read_only flags;
-            stopped = list_any is_stopped flags;
-            start = Running;
-          })) said.hosts;
+        dev = address_value unit;
+        blocks = value blocks;
+        depth = value depth;
+        read_only = list_any is_read_only flags;
+        stopped = list_any is_stopped flags;
+        start = Running;
+      })) said.hosts;
     }
 adds said lines.PlanLine (host ∷ unit ∷ kind ∷ first ∷ every ∷ uses ∷ rest) =
     record said {
       hosts = on_host (value host) (with_planned (record {
-            dev = address_value unit;
-            fault = some_fault_of (plan_kind kind) rest;
-            first = value first;
-            every = value every;
-            uses = value uses;
-          })) said.hosts;
+        dev = address_value unit;
+        fault = some_fault_of (plan_kind kind) rest;
+        first = value first;
+        every = value every;
+        uses = value uses;
+      })) said.hosts;
       plans = said.plans + 1;
     }
 adds said lines.CommandLine (id ∷ host ∷ lane ∷ unit ∷ timeout ∷ allowed ∷ flag ∷ cdb ∷ rest) =
     record said {
       hosts = on_host (value host) (with_command (record {
-            id = record { 0 = value id };
-            lane = record { 0 = value lane };
-            dev = address_value unit;
-            cdb = cdb_of (bytes_value cdb);
-            fill = fill_of rest;
-            timeout = value timeout;
-            allowed = value allowed;
-            failfast = unwrap_or (failfast flag) false;
-          })) said.hosts;
+        id = record { 0 = value id };
+        lane = record { 0 = value lane };
+        dev = address_value unit;
+        cdb = cdb_of (bytes_value cdb);
+        fill = fill_of rest;
+        timeout = value timeout;
+        allowed = value allowed;
+        failfast = unwrap_or (failfast flag) false;
+      })) said.hosts;
       ids = insert_key nat_cmp said.ids (value id);
     }
 adds said lines.StepLine (host ∷ rest) = record said { steps = said.steps ++ (said.line, record { 0 = value host }, step_in rest) ∷ [] }

@@ -1,5 +1,5 @@
 -- What whoever plays a good script may rely on.
-use Rattle.std.specs.Prelude.{◌≡◌, ℕ, ◌==◌, ◌^◌, ◌<◌, Bool, true, false, not, ◌&&◌, List, [], ◌∷◌, length, find, None, Option, Some, All}
+use Rattle.std.specs.Prelude.{◌≡◌, ℕ, ◌==◌, ◌^◌, ◌<◌, Bool, true, false, not, ◌&&◌, List, [], ◌∷◌, None, Option, Some, All}
 use Rattle.std.specs.List.{list_any}
 use Rattle.mid_base.specs.Limits.{KeepsLimits}
 use Rattle.mid_base.specs.Address.{has_dev}

@@ -1,5 +1,5 @@
 -- What the lines so far say.
-use Rattle.std.specs.Prelude.{◌≡◌, ◌<◌, ℕ, ◌==◌, nat_lt, Bool, false, if◌then◌else◌, List, [], ◌∷◌, ◌++◌, length, find, get_or, Option, Some, None}
+use Rattle.std.specs.Prelude.{◌≡◌, ◌<◌, ℕ, ◌==◌, Bool, false, if◌then◌else◌, List, [], ◌∷◌, ◌++◌, find, get_or, Option, Some, None}
 use Rattle.std.specs.List.{list_any}
 use Rattle.mid_base.specs.Address.{has_dev}
 use Rattle.mid_base.specs.declared.names.DevAddr.{DevAddr}

@@ -8,7 +8,8 @@ use mid_base::{
 use std::test::Fail;
 
 // Two hosts that are said in turn, with blanks, remarks, and digits of either case.
-const RICH: &str = " # two hosts\nhost 7 00016 db noasync\r\n\nhost\t0  1024 -\nlun 7 15:255:16383 4294967295 1024 stopped ro\nlun 0 0:0:1 2048 8\nbudget 01000000000000000000\nplan 7 15:255:16383 check 1 2 65535 a 2A fF\ncmd 4294967295 7 63 15:255:16383 10000 20 failfast 28000000000000000100 aB\ncmd 1 0 0 0:0:1 1 0 - 00\nplan 0 0:0:1 raw 1 1 1 7000\nstep 0 submit 0\nstep 7 own 1152921504606846975 answer\nstep 7 state 15:255:16383 quiesce\nend stop\n  # over\n";
+const RICH: &str =
+    " # two hosts\nhost 7 00016 db noasync\r\n\nhost\t0  1024 -\nlun 7 15:255:16383 4294967295 1024 stopped ro\nlun 0 0:0:1 2048 8\nbudget 01000000000000000000\nplan 7 15:255:16383 check 1 2 65535 a 2A fF\ncmd 4294967295 7 63 15:255:16383 10000 20 failfast 28000000000000000100 aB\ncmd 1 0 0 0:0:1 1 0 - 00\nplan 0 0:0:1 raw 1 1 1 7000\nstep 0 submit 0\nstep 7 own 1152921504606846975 answer\nstep 7 state 15:255:16383 quiesce\nend stop\n  # over\n";
 
 const HERE: DevAddr = DevAddr {
     channel: 15,
@@ -110,7 +111,11 @@ fn a_good_script_says_its_plans_and_steps(rt: HostRuntime) -> Result<(), Fail> {
     assert_eq!(rt; second.plan.as_slice(), [entry].as_slice());
     let steps = [
         (12, HostNo(0), Step::Submit(LaneNo(0))),
-        (13, HostNo(7), Step::Own(Attempt(1_152_921_504_606_846_975), By::Answer)),
+        (
+            13,
+            HostNo(7),
+            Step::Own(Attempt(1_152_921_504_606_846_975), By::Answer),
+        ),
         (14, HostNo(7), Step::SetState(HERE, DeviceState::Quiesce)),
     ];
     assert_eq!(rt; script.steps.as_slice(), steps.as_slice());
@@ -140,7 +145,11 @@ fn each_fault_of_a_plan_is_said(rt: HostRuntime) -> Result<(), Fail> {
         ("silent 1 1 1", Fault::Silent),
     ];
     for (text, fault) in table {
-        let texts = ["host 0 1 -\nlun 0 0:0:1 8 8\nplan 0 0:0:1 ", text, "\nend stop"];
+        let texts = [
+            "host 0 1 -\nlun 0 0:0:1 8 8\nplan 0 0:0:1 ",
+            text,
+            "\nend stop",
+        ];
         let script = read(rt.alloc(), &texts, 16)?;
         let [host] = script.hosts.as_slice() else {
             return Err("one host".into());
@@ -160,14 +169,30 @@ fn each_state_and_step_is_said(rt: HostRuntime) -> Result<(), Fail> {
         ("work", Step::Work),
         ("settle 0", Step::Settle(Attempt(0))),
         ("tick", Step::Tick),
-        ("state 0:0:1 running", Step::SetState(THERE, DeviceState::Running)),
-        ("state 0:0:1 block", Step::SetState(THERE, DeviceState::Block)),
-        ("state 0:0:1 offline", Step::SetState(THERE, DeviceState::Offline)),
-        ("state 0:0:1 cancel", Step::SetState(THERE, DeviceState::Cancel)),
+        (
+            "state 0:0:1 running",
+            Step::SetState(THERE, DeviceState::Running),
+        ),
+        (
+            "state 0:0:1 block",
+            Step::SetState(THERE, DeviceState::Block),
+        ),
+        (
+            "state 0:0:1 offline",
+            Step::SetState(THERE, DeviceState::Offline),
+        ),
+        (
+            "state 0:0:1 cancel",
+            Step::SetState(THERE, DeviceState::Cancel),
+        ),
         ("state 0:0:1 del", Step::SetState(THERE, DeviceState::Del)),
     ];
     for (text, step) in table {
-        let texts = ["host 0 1 adtbh\nlun 0 0:0:1 8 8\nstep 0 ", text, "\nend stop\n"];
+        let texts = [
+            "host 0 1 adtbh\nlun 0 0:0:1 8 8\nstep 0 ",
+            text,
+            "\nend stop\n",
+        ];
         let script = read(rt.alloc(), &texts, 16)?;
         assert_eq!(rt; script.steps.as_slice(), [(3, HostNo(0), step)].as_slice());
     }

@@ -133,8 +133,7 @@ fn budget_line(draft: &mut Draft, rest: Words) -> Result<(), LineFault>
     ensures { Judges (seen draft.new) result (judge_slots (seen draft.old) BudgetLine (words rest.entry.rest.now)) }
 {
     let mut words = rest;
-    let rounds =
-        number_in(words.next(), 1, 1_000_000_000_000_000_000).map_err(LineFault::Bad)?;
+    let rounds = number_in(words.next(), 1, 1_000_000_000_000_000_000).map_err(LineFault::Bad)?;
     no_more(words.next()).map_err(LineFault::Bad)?;
     draft.budget = Some(rounds as u64);
     Ok(())

@@ -77,7 +77,7 @@ impl Reader {
         Ok(())
     }
 
-    /// What the bytes say that were fed: a script that can be played, or the first bad line.
+    /// What the bytes say that were fed: a script, which can be played (`good_scripts_are_playable`), or the first bad line.
     #[tactic(auto, using(crate::proofs::Telling::end_told), unfolding(crate::specs::Told::says))]
     pub fn finish(self) -> Result<Script, ReadEnd>
         ensures read { Answers (says self []) result }

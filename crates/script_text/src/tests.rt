@@ -9,9 +9,12 @@ use std::alloc::Global;
 use std::test::Fail;
 
 pub const HOST: &str = "host 0 4 adtbh\n";
+
 pub const UNIT: &str = "host 0 4 adtbh\nlun 0 0:0:0 2048 8\n";
+
 pub const COMMAND: &str =
     "host 0 4 adtbh\nlun 0 0:0:0 2048 8\ncmd 1 0 0 0:0:0 30 5 - 000000000000\n";
+
 pub const TWO_HOSTS: &str =
     "host 0 4 adtbh\nlun 0 0:0:0 2048 8\ncmd 1 0 0 0:0:0 30 5 - 000000000000\nhost 1 1 -\nlun 1 0:0:1 8 8\n";
 
@@ -47,29 +50,57 @@ fn whole_scripts_are_bad_at_their_first_bad_line(rt: HostRuntime) {
 #[test]
 fn bad_lines_of_hosts_units_and_plans_have_their_kinds(rt: HostRuntime) {
     for (text, kind) in HOST_LINES {
-        assert_eq!(rt; read(rt.alloc(), &[text], 7).err(), bad(1, kind), "in {text}");
+        assert_eq!(rt;
+            read(rt.alloc(), &[text], 7).err(),
+            bad(1, kind),
+            "in {text}"
+        );
     }
     for (text, kind) in UNIT_LINES {
-        assert_eq!(rt; read(rt.alloc(), &[HOST, text], 7).err(), bad(2, kind), "in {text}");
+        assert_eq!(rt;
+            read(rt.alloc(), &[HOST, text], 7).err(),
+            bad(2, kind),
+            "in {text}"
+        );
     }
     for (text, kind) in PLAN_LINES {
-        assert_eq!(rt; read(rt.alloc(), &[UNIT, text], 7).err(), bad(3, kind), "in {text}");
+        assert_eq!(rt;
+            read(rt.alloc(), &[UNIT, text], 7).err(),
+            bad(3, kind),
+            "in {text}"
+        );
     }
     for (text, kind) in VALUE_LINES {
-        assert_eq!(rt; read(rt.alloc(), &[UNIT, text], 7).err(), bad(3, kind), "in {text}");
+        assert_eq!(rt;
+            read(rt.alloc(), &[UNIT, text], 7).err(),
+            bad(3, kind),
+            "in {text}"
+        );
     }
 }
 
 #[test]
 fn bad_lines_of_commands_and_steps_have_their_kinds(rt: HostRuntime) {
     for (text, kind) in COMMAND_LINES {
-        assert_eq!(rt; read(rt.alloc(), &[UNIT, text], 7).err(), bad(3, kind), "in {text}");
+        assert_eq!(rt;
+            read(rt.alloc(), &[UNIT, text], 7).err(),
+            bad(3, kind),
+            "in {text}"
+        );
     }
     for (text, kind) in STEP_LINES {
-        assert_eq!(rt; read(rt.alloc(), &[COMMAND, text], 7).err(), bad(4, kind), "in {text}");
+        assert_eq!(rt;
+            read(rt.alloc(), &[COMMAND, text], 7).err(),
+            bad(4, kind),
+            "in {text}"
+        );
     }
     for (text, kind) in TWO_HOST_LINES {
-        assert_eq!(rt; read(rt.alloc(), &[TWO_HOSTS, text], 7).err(), bad(6, kind), "in {text}");
+        assert_eq!(rt;
+            read(rt.alloc(), &[TWO_HOSTS, text], 7).err(),
+            bad(6, kind),
+            "in {text}"
+        );
     }
 }
 

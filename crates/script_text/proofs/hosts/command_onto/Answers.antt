@@ -1,4 +1,3 @@
-use Rattle.std.proofs.Common.{◌≡◌}
 use Rattle.script_text.specs.Said.{with_command}
 use Rattle.script_text.proofs.Places.{changed}
 use Rattle.script_text.proofs.hosts.command_onto.Goals as goal

@@ -1,4 +1,3 @@
-use Rattle.std.proofs.Common.{◌≡◌}
 use Rattle.script_text.specs.Said.{with_unit}
 use Rattle.script_text.proofs.Places.{changed}
 use Rattle.script_text.proofs.hosts.unit_onto.Goals as goal

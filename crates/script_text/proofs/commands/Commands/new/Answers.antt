@@ -1,4 +1,3 @@
-use Rattle.std.proofs.Common.{◌≡◌}
 use Rattle.script_text.proofs.Places.{no_lanes}
 use Rattle.script_text.proofs.commands.Commands.new.Goals as goal
 
