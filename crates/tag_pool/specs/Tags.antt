@@ -1,5 +1,5 @@
 -- Which tags are out, for which devices, and which tag is taken next.
-use Rattle.std.specs.Prelude.{ℕ, ◌≡◌, ◌<◌, ◌≤◌, Bool, true, false, List, length, slice_index_or, slice_set, count_by, Option, None, Some, is_some}
+use Rattle.std.specs.Prelude.{ℕ, ◌≡◌, ◌<◌, ◌≤◌, ◌&&◌, nat_lt, Bool, true, false, List, length, slice_index_or, slice_set, count_by, Option, None, Some, is_some}
 use Rattle.mid_base.specs.declared.names.DevAddr.{DevAddr}
 use Rattle.mid_base.specs.Address.{same_dev}
 use Rattle.tag_pool.specs.declared.pool.Take.{Take}
@@ -22,6 +22,14 @@ is_out_for dev (Some d) = same_dev d dev
 -- how many tags are out for the device
 abbrev pub out_of : DevAddr → Holders → ℕ
 out_of dev tags = count_by (is_out_for dev) tags
+
+-- how many tags are out
+abbrev pub all_out : Holders → ℕ
+all_out tags = count_by is_some tags
+
+-- a tag is free, and fewer of the device's are out than `depth`
+abbrev pub has_room : Holders → DevAddr → (depth : ℕ) → Bool
+has_room tags dev depth = nat_lt (all_out tags) (length tags) && nat_lt (out_of dev tags) depth
 
 abbrev pub AllOut : Holders → Type 0
 AllOut tags = (t : ℕ) → t < length tags → is_out t tags ≡ true

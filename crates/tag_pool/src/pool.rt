@@ -2,10 +2,10 @@ ghost use Rattle.std.specs.Prelude.{◌≡◌, ◌≤◌, true, None, length, ma
 ghost use Rattle.std.specs.List.{All};
 ghost use Rattle.mid_base.specs.declared.names.DevAddr.{DevAddr};
 ghost use Rattle.tag_pool.specs.Depths.{fuller, better, at_start, depth_in, Changes};
-ghost use Rattle.tag_pool.specs.Tags.{is_out, out_of, Takes, taken};
+ghost use Rattle.tag_pool.specs.Tags.{is_out, out_of, has_room, Takes, taken};
 
 use crate::depths::{DeviceDepth, at_start, better, fuller, place_of};
-use crate::tags::{least_free, out_of};
+use crate::tags::{all_out, least_free, out_of};
 use mid_base::{DevAddr, NoMemory, Tag};
 use std::alloc::Global;
 use std::marker::Model;
@@ -86,6 +86,14 @@ impl TagPool {
         }
         self.tags[free] = Some(dev);
         Take::Tag(Tag(free as u16))
+    }
+
+    /// Whether `take` would give the device a tag: one is free, and fewer of the device's are out than its depth.
+    pub fn can_take(&self, dev: DevAddr) -> bool
+        ensures { result ≡ has_room self.now.tags dev (depth_in dev self.now.devices) }
+    {
+        let one_is_free = usize::from(all_out(&self.tags)) < self.tags.as_slice().len();
+        one_is_free && out_of(&self.tags, dev) < self.depth(dev)
     }
 
     /// Gives a tag back, which has to be out, and is free from then on.

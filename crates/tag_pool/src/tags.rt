@@ -1,5 +1,5 @@
 ghost use Rattle.std.specs.Prelude.{◌≡◌, ◌<◌, ◌^◌, length, MatchOption};
-ghost use Rattle.tag_pool.specs.Tags.{out_of, is_out_for, AllOut, IsLeastFree};
+ghost use Rattle.tag_pool.specs.Tags.{out_of, all_out, is_out_for, AllOut, IsLeastFree};
 
 use mid_base::{DevAddr, same_dev};
 
@@ -36,4 +36,18 @@ fn is_out_for(dev: DevAddr, holder: Option<DevAddr>) -> bool
         Some(taker) => same_dev(taker, dev),
         None => false,
     }
+}
+
+// How many tags are out.
+pub fn all_out(tags: &[Option<DevAddr>]) -> u16
+    requires { length tags.now < 2 ^ 16 }
+    ensures { result ≡ all_out tags.now }
+{
+    let mut count = 0;
+    for tag in tags {
+        if tag.is_some() {
+            count += 1;
+        }
+    }
+    count
 }

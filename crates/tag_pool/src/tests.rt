@@ -130,3 +130,16 @@ fn a_thousand_tags_go_out_and_come_back(rt: HostRuntime) {
     give_each(&mut pool, 1_024);
     assert!(rt; takes_each(&mut pool, FIRST, 1_024));
 }
+
+#[test]
+fn a_device_has_room_while_a_tag_is_free_and_its_depth_allows(rt: HostRuntime) {
+    let Ok(mut pool) = TagPool::new(rt.alloc(), 2, &[(FIRST, 1), (SECOND, 2)]) else {
+        assert!(rt; false, "memory for two tags");
+        return;
+    };
+    assert!(rt; pool.can_take(FIRST) && pool.can_take(SECOND) && !pool.can_take(UNKNOWN));
+    assert!(rt; takes(&mut pool, FIRST, 0));
+    assert!(rt; !pool.can_take(FIRST) && pool.can_take(SECOND));
+    assert!(rt; takes(&mut pool, SECOND, 1));
+    assert!(rt; !pool.can_take(SECOND));
+}
