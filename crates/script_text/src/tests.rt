@@ -119,12 +119,18 @@ fn read_many(alloc: Global, first: &str, line: &[u8], count: usize, last: &str) 
     }
 }
 
+// 4,096 blocks of 4,096 bytes are 16,777,216, which is the most.
+
 #[test]
-fn the_line_behind_the_limit_is_too_long(rt: HostRuntime) {
-    // 4,096 blocks of 4,096 bytes are 16,777,216, which is the most.
+fn a_script_of_the_most_bytes_is_read(rt: HostRuntime) {
     let remarks = [b'#'; 4096];
     let end = read_many(rt.alloc(), "", &remarks, 4096, "");
     assert_eq!(rt; end, bad(2, 9));
+}
+
+#[test]
+fn the_line_behind_the_limit_is_too_long(rt: HostRuntime) {
+    let remarks = [b'#'; 4096];
     let end = read_many(rt.alloc(), "", &remarks, 4096, "\n");
     assert_eq!(rt; end, bad(1, 8));
 }
