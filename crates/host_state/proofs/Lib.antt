@@ -1,0 +1,5 @@
+pub mod Ties
+pub mod Moving
+pub mod Chosen
+pub mod Going
+pub mod Settled

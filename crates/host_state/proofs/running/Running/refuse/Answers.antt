@@ -1,0 +1,31 @@
+use Rattle.std.proofs.Common.{◌≡◌, ◌∙◌, ap, refl, false, ◌∷◌}
+use Rattle.mid_base.specs.declared.entries.Entry.TheVariants as entry
+use Rattle.trace_model.specs.declared.standing.Standing.TheVariants.{New, Ended}
+use Rattle.trace_model.specs.Commands.{standing, is_busy}
+use Rattle.command_table.specs.Rows.{id_at}
+use Rattle.attempt_table.proofs.Told.{tells_apart}
+use Rattle.device_table.proofs.Entries.{not_busy_told}
+use Rattle.host_state.proofs.Ties.{stands_at, command_stands, id_kept, idle_under_way, unheld}
+use Rattle.host_state.proofs.running.Running.refuse.Goals as goal
+
+pub returns-clause-runs : goal.returns-clause-runs
+returns-clause-runs c s P id a is r =
+    let old = c.args.self.now in
+    let rows = old.commands.rows.items in
+    let there = stands_at rows c.args.place New c.requires.fresh in
+    let idle : is_busy (standing id.0 P) ≡ false = ap is_busy (command_stands s P old.commands r.commands c.args.place there.0 there.1 id is ∙ there.2) in
+    record {
+      limits = r.limits;
+      attempts = tells_apart s P old.attempts (entry.Told id a) tt r.attempts;
+      commands = c.refuse.ensures.follows s P id a is r.commands;
+      devices = not_busy_told s P old.devices id a idle r.devices;
+      time = r.time;
+      early = r.early;
+      few = r.few;
+      recovery = r.recovery;
+      calm = r.calm;
+      under_way =
+          idle_under_way P (entry.Told id a ∷ P) old.attempts.rows.items rows c.refuse.new.self.rows.items id.0 Ended idle (λ d. refl)
+          (λ j. ap (id_at j) (c.refuse.ensures.row there.0 there.1) ∙ id_kept rows c.args.place there.0 (record there.0 { standing = Ended }) j there.1 refl) r.under_way;
+      held_back = unheld s P (entry.Told id a ∷ P) id.0 Ended refl (λ d. refl) (λ u. refl) (λ n. refl) r.held_back;
+    }

@@ -1,0 +1,21 @@
+use Rattle.mid_base.specs.declared.entries.Entry.TheVariants as entry
+use Rattle.attempt_table.proofs.Told.{tells_apart}
+use Rattle.command_table.proofs.Entries.{follows_apart}
+use Rattle.host_state.proofs.running.Running.set_state.Goals as goal
+
+pub returns-clause-runs : goal.returns-clause-runs
+returns-clause-runs c s P d is r =
+    let old = c.args.self.now in
+    record {
+      limits = r.limits;
+      attempts = tells_apart s P old.attempts (entry.State d c.args.state) tt r.attempts;
+      commands = follows_apart s P old.commands (entry.State d c.args.state) tt r.commands;
+      devices = c.set_state.ensures.keeps s P d is r.devices;
+      time = r.time;
+      early = r.early;
+      few = r.few;
+      recovery = r.recovery;
+      calm = r.calm;
+      under_way = r.under_way;
+      held_back = r.held_back;
+    }

@@ -1,0 +1,48 @@
+use Rattle.std.proofs.Common.{◌≡◌, ◌∙◌, ap, refl, false, ◌∷◌}
+use Rattle.mid_base.specs.declared.entries.Entry.TheVariants as entry
+use Rattle.trace_model.specs.declared.standing.Standing.TheVariants.{New, Waits}
+use Rattle.trace_model.specs.Commands.{standing, is_busy}
+use Rattle.attempt_table.proofs.Told.{tells_apart}
+use Rattle.device_table.proofs.Entries.{not_busy_took}
+use Rattle.host_state.proofs.Ties.{stands_at, command_stands, idle_under_way, unheld, same_ids, still_under_way}
+use Rattle.std.proofs.lemmas.Result.{on_ok_weaker, on_err_weaker}
+use Rattle.host_state.proofs.running.Running.take.Goals as goal
+
+pub returns-clause-runs : goal.returns-clause-runs
+returns-clause-runs c =
+    let old = c.args.self.now in
+    let there = stands_at old.commands.rows.items c.args.place New c.requires.fresh in
+    on_ok_weaker c.take.result (λ follows s P id is r.
+    let idle : is_busy (standing id.0 P) ≡ false = ap is_busy (command_stands s P old.commands r.commands c.args.place there.0 there.1 id is ∙ there.2) in
+    record {
+      limits = r.limits;
+      attempts = tells_apart s P old.attempts (entry.Took id) tt r.attempts;
+      commands = follows s P id is r.commands;
+      devices = not_busy_took s P old.devices id idle r.devices;
+      time = r.time;
+      early = r.early;
+      few = r.few;
+      recovery = r.recovery;
+      calm = r.calm;
+      under_way =
+          idle_under_way P (entry.Took id ∷ P) old.attempts.rows.items old.commands.rows.items c.take.new.self.rows.items id.0 Waits idle (λ d. refl)
+          (same_ids s P (entry.Took id ∷ P) old.commands c.take.new.self r.commands (follows s P id is r.commands)) r.under_way;
+      held_back = unheld s P (entry.Took id ∷ P) id.0 Waits refl (λ d. refl) (λ u. refl) (λ n. refl) r.held_back;
+    }) c.take.ensures.follows
+
+pub returns-clause-same : goal.returns-clause-same
+returns-clause-same c =
+    let old = c.args.self.now in
+    on_err_weaker c.take.result (λ same s P r. record {
+      limits = r.limits;
+      attempts = r.attempts;
+      commands = same s P r.commands;
+      devices = r.devices;
+      time = r.time;
+      early = r.early;
+      few = r.few;
+      recovery = r.recovery;
+      calm = r.calm;
+      under_way = still_under_way s P old.attempts.rows.items old.commands c.take.new.self r.commands (same s P r.commands) r.under_way;
+      held_back = r.held_back;
+    }) c.take.ensures.same
