@@ -2,10 +2,10 @@ ghost use Rattle.std.specs.Prelude.{◌≡◌, [], ◌∷◌, ◌++◌, length, 
 ghost use Rattle.first_script.specs.Playable.{IsPlayable, IsPlayableStep};
 ghost use Rattle.play_top.specs.Played.{ArePlayable, Comes, Plays, Ran, skip_of};
 
+use first_script::Script;
 use fixed_lower::FixedLower;
 use mid_base::{Did, HostNo, HostSpec, NoMemory, Rows, Step, Why};
 use mid_core::Core;
-use first_script::Script;
 use std::alloc::Global;
 
 /// A host after its steps, and the step lines that were skipped: their numbers, and why.

@@ -3,9 +3,9 @@ ghost use Rattle.report_text.specs.Ends.{WritesText};
 ghost use Rattle.play_top.specs.Texts.{bad_text, played_text};
 
 use crate::playing::Played;
+use first_script::Bad;
 use mid_io::{Sink, write_all};
 use report_text::{WriteEnd, write_host, write_skips};
-use first_script::Bad;
 use std::alloc::{AllocError, Global};
 
 /// Writes the journal of a host with the results of its commands, and the step lines that were skipped.
