@@ -1,8 +1,8 @@
-# `make play SCRIPT=examples/first.script` proves, builds and plays; `make ci` is the gate.
+# `make play SCRIPT=examples/first.script` proves, builds and plays; `make ci` is the gate; `make bench` measures.
 
 SCRIPT ?= examples/first.script
 
-.PHONY: play ci
+.PHONY: play ci bench
 
 play:
 	@echo "scsi_play: the crates that it stands on are proved, then it is built and run; the first run takes many minutes, later ones seconds." >&2
@@ -11,3 +11,6 @@ play:
 
 ci:
 	@.ci/run
+
+bench:
+	@bench/run

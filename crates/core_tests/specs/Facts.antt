@@ -1,15 +1,17 @@
 -- What a caller of a core's steps may build on.
-use Rattle.std.specs.Prelude.{◌≡◌, ℕ, List, ◌++◌, Some, Result, Ok, slice_get, slice_set}
+use Rattle.std.specs.Prelude.{◌≡◌, ℕ, ◌<◌, List, [], ◌∷◌, ◌++◌, All, reverse, Some, Result, Ok, slice_get, slice_set}
 use Rattle.mid_base.specs.declared.answers.By.{By}
 use Rattle.mid_base.specs.declared.answers.By.TheVariants.{Answer as ByAnswer}
 use Rattle.mid_base.specs.declared.answers.NoMemory.{NoMemory}
 use Rattle.mid_base.specs.declared.answers.TagState.TheVariants.{Free, Armed, Owned}
 use Rattle.mid_base.specs.declared.entries.Entry.{Entry}
+use Rattle.mid_base.specs.declared.entries.Entry.TheVariants.{Sent, Bounced, Told}
 use Rattle.mid_base.specs.declared.names.Attempt.{Attempt}
 use Rattle.mid_base.specs.declared.steps.Step.{Step}
-use Rattle.mid_base.specs.declared.steps.Step.TheVariants.{Submit, Work, Tick}
+use Rattle.mid_base.specs.declared.steps.Step.TheVariants.{Submit, Work, Tick, SetState}
 use Rattle.mid_base.specs.declared.steps.Did.{Did}
 use Rattle.mid_base.specs.declared.steps.Did.TheVariants.{Done}
+use Rattle.trace_model.specs.Attempts.{attempts}
 use Rattle.mid_core.specs.View.{CoreView}
 
 -- this holds where the step was made
@@ -24,6 +26,24 @@ pub record Grows {A : Type 0} (old new : CoreView A) : Type 0 where
   pub group : List Entry
   pub journal : new.journal ≡ old.journal ++ group
 
+abbrev pub KeepsTags : {A : Type 0} → CoreView A → CoreView A → Type 0
+KeepsTags old new = new.tags ≡ old.tags
+
+-- n is above the numbers of all attempts of the journal
+abbrev pub IsAbove : ℕ → List Entry → Type 0
+IsAbove n journal = All (λ m. m < n) (attempts (reverse journal))
+
+-- One attempt is sent, with a new number, and arms a tag that was free; or it is turned away, or a command is reported,
+-- and the tags are as they were.
+abbrev pub Sends : {A : Type 0} → List Entry → CoreView A → CoreView A → Type 0
+Sends (Sent c n t ∷ []) old new = IsAbove n.0 old.journal × (slice_get old.tags t.0 ≡ Some Free) × (new.tags ≡ slice_set old.tags t.0 (Armed n))
+Sends (Sent c n t ∷ Bounced d m why ∷ []) old new = IsAbove n.0 old.journal × KeepsTags old new
+Sends (Told c a ∷ []) old new = KeepsTags old new
+Sends g old new = ⊥
+
+abbrev pub SendsOne : {A : Type 0} → CoreView A → CoreView A → Type 0
+SendsOne old new = (g : List Entry) × (new.journal ≡ old.journal ++ g) × Sends g old new
+
 -- one tag that was armed with n is owned by its answer, and the others are as they were
 abbrev pub Owns : {A : Type 0} → CoreView A → CoreView A → Attempt → Type 0
 Owns old new n = (t : ℕ) × (slice_get old.tags t ≡ Some (Armed n)) × (new.tags ≡ slice_set old.tags t (Owned n ByAnswer))
@@ -32,12 +52,10 @@ Owns old new n = (t : ℕ) × (slice_get old.tags t ≡ Some (Armed n)) × (new.
 abbrev pub Frees : {A : Type 0} → CoreView A → CoreView A → Attempt → Type 0
 Frees old new n = (t : ℕ) × (by : By) × (slice_get old.tags t ≡ Some (Owned n by)) × (new.tags ≡ slice_set old.tags t Free)
 
-abbrev pub KeepsTags : {A : Type 0} → CoreView A → CoreView A → Type 0
-KeepsTags old new = new.tags ≡ old.tags
-
 -- the steps that leave the tags as they are
 abbrev pub MovesNoTag : Step → Type 0
 MovesNoTag (Submit lane) = Unit {0}
 MovesNoTag Work = Unit {0}
 MovesNoTag Tick = Unit {0}
+MovesNoTag (SetState dev state) = Unit {0}
 MovesNoTag step = ⊥

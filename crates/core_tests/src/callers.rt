@@ -1,11 +1,20 @@
-ghost use Rattle.std.specs.Prelude.{reverse};
-ghost use Rattle.mid_core.specs.View.{IsBuiltAt};
-ghost use Rattle.mid_base.specs.declared.steps.Step.TheVariants as steps;
-ghost use Rattle.core_tests.specs.Facts.{WhereDone, Grows, Owns, Frees, KeepsTags, MovesNoTag};
+ghost use Rattle.core_tests.specs.Facts.{WhereDone, Grows, Owns, Frees, SendsOne, KeepsTags, MovesNoTag};
 
 use host_template::HostTemplate;
 use mid_base::{Attempt, By, Did, NoMemory, Step};
 use mid_core::Core;
+
+/// Sends the command that goes next. Where that is done, one attempt was sent, with a number above all earlier ones, and
+/// one tag that was free is armed with it. Where the lower layer turned it away, or the command was reported in place of
+/// it, no tag has changed.
+pub fn sent<A: HostTemplate>(core: &mut Core<A>) -> Result<Did, NoMemory>
+    ensures grows { Grows core.old core.new }
+    ensures sends { WhereDone result (SendsOne core.old core.new) }
+{
+    // What was sent before has numbers up to the count of its sendings.
+    let _ = core.journal();
+    core.step(Step::Send)
+}
 
 /// Gives an attempt to its answer. Where that is done, one tag that was armed with the attempt is owned, and no other tag
 /// has changed.
@@ -16,10 +25,8 @@ pub fn gave_to_answer<A: HostTemplate>(core: &mut Core<A>, n: Attempt) -> Result
     core.step(Step::Own(n, By::Answer))
 }
 
-/// Settles an attempt whose answer is GOOD. Where that is done, one tag that was owned is free, and no other tag has
-/// changed.
+/// Settles an attempt. Where that is done, one tag that was owned is free, and no other tag has changed.
 pub fn settled<A: HostTemplate>(core: &mut Core<A>, n: Attempt) -> Result<Did, NoMemory>
-    requires { IsBuiltAt (reverse core.old.journal) (steps.Settle n) }
     ensures grows { Grows core.old core.new }
     ensures frees { WhereDone result (Frees core.old core.new n) }
 {

@@ -1,2 +1,6 @@
-pub mod Stepping
-pub mod Making
+pub mod Known
+pub mod Turns
+pub mod Judged
+pub mod Offered
+pub mod Groups
+pub mod Growing

@@ -1,8 +1,6 @@
 -- What a step of a core does.
 use Rattle.std.specs.Prelude.{◌≡◌, ℕ, ◌==◌, ◌&&◌, ◌≤◌, Bool, true, false, List, [], ◌∷◌, ◌++◌, reverse, Some, None, Result, Ok, Err, slice_get, slice_set}
 use Rattle.std.specs.List.{list_all}
-use Rattle.mid_base.specs.declared.answers.BusyOf.{BusyOf}
-use Rattle.mid_base.specs.declared.answers.BusyOf.TheVariants.{Host as BusyHost, Device as BusyDevice}
 use Rattle.mid_base.specs.declared.answers.By.{By}
 use Rattle.mid_base.specs.declared.answers.NoMemory.{NoMemory}
 use Rattle.mid_base.specs.declared.answers.TagState.{TagState}
@@ -15,15 +13,14 @@ use Rattle.mid_base.specs.declared.steps.Step.TheVariants as step
 use Rattle.mid_base.specs.declared.steps.Did.{Did}
 use Rattle.mid_base.specs.declared.steps.Did.TheVariants.{Done, Skipped}
 use Rattle.mid_base.specs.Past.{ticks}
-use Rattle.host_template.specs.declared.queued.Queued.{Queued}
-use Rattle.host_template.specs.declared.queued.Queued.TheVariants.{DeviceBusy}
 use Rattle.host_template.specs.Standing.{Standing, Unchanged}
 use Rattle.trace_model.specs.Steps.{opens, same_owner, IsAdded, barred}
 use Rattle.mid_core.specs.View.{CoreView}
 
--- the list begins with an opener of the step
+-- the list begins with an opener of the step: that of SetState is of its device and its state
 abbrev pub Opens : HostSpec → List Entry → Step → List Entry → Type 0
 Opens spec P s [] = ⊥
+Opens spec P (step.SetState d x) (e ∷ g) = e ≡ entry.State d x
 Opens spec P s (e ∷ g) = opens spec P s e ≡ true
 
 -- the step adds these entries to a journal: they begin with its opener, they are a group (a Send's may be followed by its
@@ -73,8 +70,3 @@ abbrev pub Answers : {A : Type 0} → (A → Standing) → (A → ℕ → Bool) 
 Answers stands due old new s (Ok Done) = Adds due old new s
 Answers stands due old new s (Ok (Skipped why)) = (new ≡ old) × (barred old.spec (due old.lower (ticks (reverse old.journal))) (reverse old.journal) s ≡ Some why)
 Answers stands due old new s (Err e) = IsSame stands due old new
-
--- who was busy, where the lower layer didn't take the attempt
-abbrev pub who_was_busy : Queued → BusyOf
-who_was_busy DeviceBusy = BusyDevice
-who_was_busy q = BusyHost

@@ -1,4 +1,6 @@
-pub mod Steps
 pub mod Whole
+pub mod Due
+pub mod Steps
+pub mod Runs
+pub mod Turns
 pub mod Texts
-pub mod Hosts

@@ -1,93 +1,122 @@
--- Steps over the lower layer that answers every attempt GOOD.
-use Rattle.std.proofs.Common.{◌≡◌, ℕ, ◌==◌, true, ◌&&◌, List, [], ◌∷◌, ◌++◌, reverse, Option, None, Some, refl, sym, ap, ◌∙◌, subst, inl, inr, append_assoc}
-use Rattle.std.specs.Prelude.{option_map}
-use Rattle.std.proofs.lemmas.Bool.{cases_Bool}
+-- Steps on hosts.
+use Rattle.std.proofs.Common.{◌≡◌, ℕ, List, [], ◌∷◌, ◌++◌, length, get_or, set, reverse, Option, None, Some, Ok, refl, sym, ap, ◌∙◌, subst, append_assoc, inl, inr, arith, ◌≤◌, one-add}
+use Rattle.std.specs.List.{position, position_or_len}
+use Rattle.std.proofs.lemmas.Bool.{cases_Bool, cases_lt, lt-ltb, eqb-true}
 use Rattle.std.proofs.lemmas.List.{reverse-append, append-nil}
-use Rattle.mid_base.specs.declared.names.Attempt.{Attempt}
-use Rattle.mid_base.specs.declared.names.HostNo.{HostNo}
-use Rattle.mid_base.specs.declared.answers.Answer.{Answer}
-use Rattle.mid_base.specs.declared.answers.By.TheVariants.{Answer as ByAnswer}
-use Rattle.mid_base.specs.declared.bytes.SenseBytes.{SenseBytes}
+use Rattle.std.proofs.lemmas.List.Quantifiers.{position-Some}
+use Rattle.std.proofs.lemmas.Option.{slice_get-get_or}
+use Rattle.std.proofs.Math.Seq.{map-set_same}
+use Rattle.mid_base.specs.declared.answers.By.TheVariants as owners
 use Rattle.mid_base.specs.declared.entries.Entry.{Entry}
-use Rattle.mid_base.specs.declared.entries.Entry.TheVariants as entry
+use Rattle.mid_base.specs.declared.names.HostNo.{HostNo}
 use Rattle.mid_base.specs.declared.steps.Step.{Step}
 use Rattle.mid_base.specs.declared.steps.Step.TheVariants as step
 use Rattle.mid_base.specs.declared.steps.Why.{Why}
 use Rattle.mid_base.specs.declared.host_spec.HostSpec.{HostSpec}
+use Rattle.mid_base.specs.declared.steps.Did.{Did}
+use Rattle.mid_base.specs.declared.steps.Did.TheVariants.{Done, Skipped}
 use Rattle.mid_base.specs.Past.{ticks}
-use Rattle.mid_base.specs.Answers.{is_good, with_sense}
-use Rattle.trace_model.specs.Attempts.{answer, is_wanted}
+use Rattle.host_template.specs.Standing.{Before}
+use Rattle.adapter_tables.specs.Ties.{any_due}
+use Rattle.debug_adapter.specs.declared.adapter.DebugAdapter.{DebugAdapter}
+use Rattle.debug_adapter.specs.Adapter.{AdapterStands}
 use Rattle.trace_model.specs.Legal.{onto}
 use Rattle.trace_model.proofs.Making.{onto-reverse}
-use Rattle.fixed_lower.specs.LowerRun.{good, LowerRun, IsAt, is_due_at, is_due_after}
-use Rattle.mid_core.specs.View.{IsBuiltAt}
-use Rattle.first_script.specs.Playable.{IsPlayableStep}
-use Rattle.play_top.specs.Played.{Comes, Plays, skip_of}
+use Rattle.mid_core.specs.View.{CoreView, IsBuilt}
+use Rattle.mid_core.specs.Steps.{Answers}
+use Rattle.script_text.specs.Playable.{IsStepOn, IsStepOnSome}
+use Rattle.script_text.specs.Said.{host_of}
+use Rattle.play_top.proofs.Due.{due_is}
+use Rattle.play_top.specs.Played.{Comes, ComesOn, HostRun, Plays, is_named, skip_of, specs_of}
 
-same_good : (a b : Answer) → a ≡ good → Some a ≡ Some b → is_good b ≡ true
-same_good a b e h = let same : good ≡ b = cc in subst (λ (x : Answer). is_good x ≡ true) same refl
+built_on : (h : HostSpec) (t : Step) → IsStepOn h t → IsBuilt t
+built_on h (step.Submit lane) is = tt
+built_on h step.Send is = tt
+built_on h step.Work is = tt
+built_on h (step.Own n owners.Answer) is = tt
+built_on h (step.Settle n) is = tt
+built_on h step.Tick is = tt
+built_on h (step.SetState d x) is = tt
+built_on h t is = absurd is
 
-sensed_good : (o : Option Answer) (s : SenseBytes) (a : Answer) → ((b : Answer) → o ≡ Some b → is_good b ≡ true) → option_map (with_sense s) o ≡ Some a → is_good a ≡ true
-sensed_good None s a h e = cc
-sensed_good (Some b) s a h e =
-    let same : with_sense s b ≡ a = cc in
-    let here : is_good (with_sense s b) ≡ true = h b refl in
-    subst (λ (x : Answer). is_good x ≡ true) same here
+-- each step that a script can say is one that there is
+pub built : (o : Option HostSpec) (t : Step) → IsStepOnSome o t → IsBuilt t
+built None t is = absurd is
+built (Some h) t is = built_on h t is
 
-pub answers_good : (n : ℕ) (P : List Entry) → LowerRun P → (a : Answer) → answer n P ≡ Some a → is_good a ≡ true
-answers_good n [] run a e = cc
-answers_good n (entry.Bounced c m why ∷ P) run a e = absurd run
-answers_good n (entry.Ready m b ∷ P) run a e = elim (cases_Bool ((m.0 == n) && is_wanted n P)) [
-  | inl is ↦ same_good b a run.1 (rw is at e)
-  | inr isnt ↦ answers_good n P run.2 a (rw isnt at e)
+absent : (n : ℕ) (runs : List HostRun) (t : Step) → IsStepOnSome (host_of (specs_of runs) n) t → length runs ≤ position_or_len (is_named n) runs → ⊥
+absent n [] t is le = absurd is
+absent n (r ∷ runs) t is le = elim (cases_Bool (is_named n r)) [
+  | inl hit ↦ let h = rw hit at le in omega (arith, h)
+  | inr isnt ↦ let below = rw (isnt, one-add) at le in absent n runs t (rw isnt at is) (omega (arith, below))
 ]
-answers_good n (entry.Sensed c m s ∷ P) run a e = elim (cases_Bool (m.0 == n)) [
-  | inl is ↦ sensed_good (answer n P) s a (answers_good n P run) (rw is at e)
-  | inr isnt ↦ answers_good n P run a (rw isnt at e)
+
+-- the host that a step names is there
+pub host_found : (n : ℕ) (runs : List HostRun) (t : Step) → IsStepOnSome (host_of (specs_of runs) n) t → position (is_named n) runs ≡ None → ⊥
+host_found n runs t is none = elim (cases_lt (position_or_len (is_named n) runs) (length runs)) [
+  | inl lt ↦ absurd (let h = rw (lt-ltb (position_or_len (is_named n) runs) (length runs) lt) at none in cc h)
+  | inr le ↦ absent n runs t is (omega arith)
 ]
-answers_good n (entry.Tick ∷ P) run a e = answers_good n P run.1 a e
-answers_good n (x ∷ P) run a e = answers_good n P run a e
-
-pub built : (P : List Entry) (t : Step) → IsPlayableStep t → LowerRun P → IsBuiltAt P t
-built P (step.Submit lane) h run = tt
-built P step.Send h run = tt
-built P step.Work h run = tt
-built P (step.Own n ByAnswer) h run = tt
-built P (step.Settle n) h run = answers_good n.0 P run
-built P step.Tick h run = tt
-built P t h run = absurd h
-
-pub due_is : (held : List (Attempt × ℕ)) (P : List Entry) → IsAt held P → is_due_at held (ticks P) ≡ is_due_after P
-due_is held P h = ap (λ (ws : List (Attempt × ℕ)). is_due_at ws (ticks P)) h.0
 
 -- the journal behind a group, the newest entry first
 pub behind : (journal g new : List Entry) → new ≡ journal ++ g → reverse new ≡ onto g (reverse journal)
 behind journal g new e = ap reverse e ∙ (reverse-append journal g ∙ sym (onto-reverse g (reverse journal)))
 
+-- a step on the first host with the number
+pub made_on : (old : List HostRun) (n i : ℕ) (t : Step) (why : Option Why) (d new : HostRun) → position (is_named n) old ≡ Some i
+    → Comes (get_or old i d).spec (get_or old i d).entries t why new.entries → new.spec ≡ (get_or old i d).spec → ComesOn old n t why (set old i new)
+made_on old n i t why d new place comes kept =
+    let host = get_or old i d in
+    let found = position-Some (is_named n) old i d place in
+    record {
+      place = i;
+      host = host;
+      entries = new.entries;
+      at = slice_get-get_or old i d found.0;
+      named = eqb-true host.spec.no.0 n found.1;
+      comes = comes;
+      changed = ap (λ (s : HostSpec). set old i (record { spec = s; entries = new.entries })) kept;
+    }
+
+pub specs_kept : (old : List HostRun) (i : ℕ) (d new : HostRun) → new.spec ≡ (get_or old i d).spec → specs_of (set old i new) ≡ specs_of old
+specs_kept old i d new kept = map-set_same (λ (r : HostRun). r.spec) old i new d kept
+
 -- one step line more
-pub plays_more : (s : HostSpec) (steps : List (ℕ × HostNo × Step)) (P Q R : List Entry) (skips : List (ℕ × Why)) (t : ℕ × HostNo × Step) (why : Option Why)
-    → Plays s steps P Q skips → Comes s Q t.2 why R → Plays s (steps ++ t ∷ []) P R (skips ++ skip_of t.0 why)
-plays_more s [] P Q R skips t why h come = (
-  R,
+pub plays_more : (steps : List (ℕ × HostNo × Step)) (old mid new : List HostRun) (skips : List (ℕ × Why)) (t : ℕ × HostNo × Step) (why : Option Why)
+    → Plays steps old mid skips → ComesOn mid t.1.0 t.2 why new → Plays (steps ++ t ∷ []) old new (skips ++ skip_of t.0 why)
+plays_more [] old mid new skips t why h come = (
+  new,
   why,
   [],
-  subst (λ (X : List Entry). Comes s X t.2 why R) h.0 come,
+  subst (λ (runs : List HostRun). ComesOn runs t.1.0 t.2 why new) h.0 come,
   ap (λ (xs : List (ℕ × Why)). xs ++ skip_of t.0 why) h.1 ∙ sym (append-nil (skip_of t.0 why)),
   (refl, refl),
 )
-plays_more s (u ∷ steps) P Q R skips t why h come = (
+plays_more (u ∷ steps) old mid new skips t why h come = (
   h.0,
   h.1,
   h.2 ++ skip_of t.0 why,
   h.3,
   ap (λ (xs : List (ℕ × Why)). xs ++ skip_of t.0 why) h.4 ∙ append_assoc (skip_of u.0 h.1) h.2 (skip_of t.0 why),
-  plays_more s steps h.0 Q R h.2 t why h.5 come,
+  plays_more steps h.0 mid new h.2 t why h.5 come,
 )
 
--- steps that began with an empty journal
-pub played_steps : (steps made : List (ℕ × HostNo × Step)) (s t : HostSpec) (J K : List Entry) (skips : List (ℕ × Why))
-    → made ≡ steps → t ≡ s → J ≡ [] → Plays s made (reverse J) (reverse K) skips → Plays t steps [] (reverse K) skips
-played_steps steps made s t J K skips e f none h =
-    subst (λ (x : HostSpec). Plays x steps [] (reverse K) skips) (sym f)
-    (subst (λ (xs : List (ℕ × HostNo × Step)). Plays s xs [] (reverse K) skips) e
-    (subst (λ (j : List Entry). Plays s made (reverse j) (reverse K) skips) none h))
+-- why a step was skipped, if it was
+abbrev pub why_of : Did → Option Why
+why_of Done = None
+why_of (Skipped why) = Some why
+
+-- what a step of the core says of its host
+pub came : (old new : CoreView DebugAdapter) (run : HostRun) (t : Step) (did : Did) → old.before ≡ [] → record { spec = old.spec; entries = reverse old.journal } ≡ run
+    → AdapterStands old.lower old.spec old.before (reverse old.journal) → Answers AdapterStands (λ x now. any_due x.held now) old new t (Ok did)
+    → Comes run.spec run.entries t (why_of did) (reverse new.journal)
+came old new run t Done none view stands answer =
+    let P = reverse old.journal in
+    let due = due_is old.lower old.spec P (subst (λ (b : Before). AdapterStands old.lower old.spec b P) none stands) in
+    subst (λ (r : HostRun). Comes r.spec r.entries t None (reverse new.journal)) view
+    (any_due old.lower.held (ticks P), due, (answer.group, behind old.journal answer.group new.journal answer.journal, answer.adds))
+came old new run t (Skipped why) none view stands answer =
+    let P = reverse old.journal in
+    let due = due_is old.lower old.spec P (subst (λ (b : Before). AdapterStands old.lower old.spec b P) none stands) in
+    subst (λ (r : HostRun). Comes r.spec r.entries t (Some why) (reverse new.journal)) view
+    (any_due old.lower.held (ticks P), due, (ap (λ (v : CoreView DebugAdapter). reverse v.journal) answer.0, answer.1))

@@ -1,18 +1,17 @@
 -- What the bytes that were read say of the whole source.
-use Rattle.std.proofs.Common.{◌≡◌, ℕ, ◌+◌, ◌≤◌, true, false, List, [], ◌∷◌, length, Option, None, Some, Result, Ok, Err, refl, sym, ap, ◌∙◌, arith, inl, inr, length-append, length-take}
+use Rattle.std.proofs.Common.{◌≡◌, ℕ, suc, ◌+◌, ◌≤◌, true, false, List, [], ◌∷◌, length, Option, None, Some, Result, Ok, Err, refl, sym, ap, ◌∙◌, arith, inl, inr, length-append, length-take}
 use Rattle.std.specs.Prelude.{nat_lt}
 use Rattle.std.specs.Io.KnownBytes.{Consumes}
-use Rattle.std.proofs.lemmas.Bool.{lt-ltb, cases_lt}
+use Rattle.std.proofs.lemmas.Bool.{cases_Bool, lt-ltb, cases_lt}
+use Rattle.std.specs.List.{onto_first}
 use Rattle.mid_io.specs.Whole.{IsFront}
-use Rattle.first_script.specs.declared.script.Script.{Script}
-use Rattle.first_script.specs.declared.script.Bad.{Bad}
-use Rattle.first_script.specs.declared.kind.Kind.{Kind}
-use Rattle.first_script.specs.Fed.{counted}
-use Rattle.first_script.specs.Pieces.{lines, words, is_last}
-use Rattle.first_script.specs.Said.{Said, nothing}
-use Rattle.first_script.specs.Script.{judge, judge_lines, after_line, script_of, bad}
-use Rattle.first_script.proofs.Counted.{counted_says_all}
-use Rattle.first_script.proofs.Cuts.{no_line_left}
+use Rattle.script_text.specs.declared.script.Script.{Script}
+use Rattle.script_text.specs.declared.script.Bad.{Bad}
+use Rattle.script_words.specs.declared.kind.Kind.{Kind}
+use Rattle.script_words.specs.Pieces.{lines, words, pieces, is_last, is_newline}
+use Rattle.script_text.specs.Said.{Said, nothing}
+use Rattle.script_text.specs.Script.{at_line, judge, judge_lines, after_line, counted, script_of, bad}
+use Rattle.script_text.proofs.Counted.{counted_says_all}
 use Rattle.play_top.specs.declared.reading.Unread.{Unread}
 use Rattle.play_top.specs.declared.reading.Unread.TheVariants as unread
 use Rattle.play_top.specs.Reading.{Says, IsReadOut, ReadsScript, ScriptReads}
@@ -31,11 +30,21 @@ cut_is_bad : (rest : List (List ℕ)) (line : List ℕ) (n : ℕ) (said : Said) 
 unfolding judge_lines
 cut_is_bad [] line n said script e = cc
 cut_is_bad (next ∷ rest) line n said script e =
-    goes_on_bad n (λ s. judge_lines true (n + 1) s (next ∷ rest)) (judge n said (words line)) script (λ s. cut_is_bad rest next (n + 1) s script) e
+    goes_on_bad n (λ s. judge_lines true (n + 1) s (next ∷ rest)) (judge (at_line n said) (words line)) script (λ s. cut_is_bad rest next (n + 1) s script) e
 
 lines_left : (ls : List (List ℕ)) (n : ℕ) (said : Said) (script : Script) → is_last ls ≡ false → judge_lines true n said ls ≡ Ok script → ⊥
 lines_left [] n said script some e = cc
 lines_left (line ∷ rest) n said script some e = cut_is_bad rest line n said script e
+
+onto_is_some : (b : ℕ) (ps : List (List ℕ)) → is_last (onto_first b ps) ≡ false
+onto_is_some b [] = refl
+onto_is_some b (p ∷ ps) = refl
+
+-- a text that isn't empty has a line
+line_left : (s : List ℕ) (k : ℕ) → length s ≡ suc k → is_last (lines s) ≡ false
+unfolding lines
+line_left [] k e = absurd (omega (arith, e))
+line_left (b ∷ bs) k e = elim (cases_Bool (is_newline b)) [ inl t ↦ rw t refl | inr f ↦ rw f (onto_is_some b (pieces is_newline bs)) ]
 
 pub good_is_short : (text : List ℕ) (script : Script) → script_of text ≡ Ok script → length text ≤ 16777216
 unfolding script_of
@@ -44,7 +53,7 @@ good_is_short text script e = elim (cases_lt 16777216 (length text)) [
   | inl long ↦
       let cut : nat_lt 16777216 (length text) ≡ true = lt-ltb 16777216 (length text) long in
       let count : length (counted text) ≡ 16777217 = omega (arith, length-take {A = ℕ} 16777217 text) in
-      let some : is_last (lines (counted text)) ≡ false = no_line_left (counted text) ∙ rw count refl in
+      let some : is_last (lines (counted text)) ≡ false = line_left (counted text) 16777216 count in
       absurd (lines_left (lines (counted text)) 1 nothing script some (rw cut at e))
 ]
 

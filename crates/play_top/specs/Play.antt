@@ -1,26 +1,23 @@
 -- What a run of the program did.
 use Rattle.std.specs.Prelude.{ℕ, ◌⊎◌, List, [], Option, Ok, Err}
 use Rattle.std.specs.Io.KnownBytes.{Appends}
-use Rattle.mid_base.specs.declared.entries.Entry.{Entry}
 use Rattle.mid_base.specs.declared.steps.Why.{Why}
-use Rattle.mid_base.specs.declared.host_spec.HostSpec.{HostSpec}
 use Rattle.mid_io.specs.Whole.{IsCutShort}
-use Rattle.first_script.specs.declared.script.Script.{Script}
-use Rattle.first_script.specs.declared.script.Bad.{Bad}
+use Rattle.script_text.specs.declared.script.Script.{Script}
+use Rattle.script_text.specs.declared.script.Bad.{Bad}
 use Rattle.play_top.specs.Reading.{Says, IsReadOut}
-use Rattle.play_top.specs.Played.{Ran}
+use Rattle.play_top.specs.Played.{HostRun, Ran}
 use Rattle.play_top.specs.Texts.{played_text, bad_text}
 
--- the source was read to its end, its bytes are a good script, the script was played, and the text of the journal written
+-- the source was read to its end, its bytes are a good script, the script was played, and the text of the journals written
 pub record IsGoodRun (left left_new old new : Option (List ℕ)) : Type 0 where
   pub script : Script
   pub says : Says left (Ok script)
   pub ended : IsReadOut left left_new
-  pub spec : HostSpec
-  pub journal : List Entry
+  pub runs : List HostRun
   pub skips : List (ℕ × Why)
-  pub ran : Ran script spec journal skips
-  pub written : Appends old new (played_text spec journal skips)
+  pub ran : Ran script runs skips
+  pub written : Appends old new (played_text runs skips)
 
 -- the source's bytes are a bad script, and its first bad line with its kind was written
 pub record IsBadRun (left old new : Option (List ℕ)) : Type 0 where
@@ -32,6 +29,6 @@ pub record IsBadRun (left old new : Option (List ℕ)) : Type 0 where
 abbrev pub IsCutOff : Option (List ℕ) → Option (List ℕ) → Option (List ℕ) → Type 0
 IsCutOff left old new =
     ((bad : Bad) × Says left (Err bad) × IsCutShort old new (bad_text bad))
-    ⊎ ((script : Script) × (spec : HostSpec) × (journal : List Entry) × (skips : List (ℕ × Why))
-    × Says left (Ok script) × Ran script spec journal skips × IsCutShort old new (played_text spec journal skips))
+    ⊎ ((script : Script) × (runs : List HostRun) × (skips : List (ℕ × Why))
+    × Says left (Ok script) × Ran script runs skips × IsCutShort old new (played_text runs skips))
     ⊎ Appends old new []

@@ -2,10 +2,10 @@
 use Rattle.std.specs.Prelude.{◌≡◌, ℕ, List, Option, None, Some, Result, Ok, Err, ⊤}
 use Rattle.std.specs.Io.KnownBytes.{IsAtEnd}
 use Rattle.mid_io.specs.Causes.{Rose}
-use Rattle.first_script.specs.declared.script.Script.{Script}
-use Rattle.first_script.specs.declared.script.Bad.{Bad}
-use Rattle.first_script.specs.Script.{script_of}
-use Rattle.first_script.specs.Playable.{IsPlayable}
+use Rattle.script_text.specs.declared.script.Script.{Script}
+use Rattle.script_text.specs.declared.script.Bad.{Bad}
+use Rattle.script_text.specs.Script.{script_of}
+use Rattle.script_text.specs.Playable.{IsPlayable}
 use Rattle.play_top.specs.declared.reading.Unread.{Unread}
 use Rattle.play_top.specs.declared.reading.Unread.TheVariants as unread
 

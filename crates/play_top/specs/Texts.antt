@@ -1,15 +1,30 @@
 -- What is written.
-use Rattle.std.specs.Prelude.{ℕ, List, [], ◌∷◌, ◌++◌, codes}
+use Rattle.std.specs.Prelude.{ℕ, List, [], ◌++◌, if◌then◌else◌, map, reverse, codes}
+use Rattle.std.specs.List.{flat_map}
 use Rattle.std.specs.Fmt.{decimal}
-use Rattle.mid_base.specs.declared.entries.Entry.{Entry}
 use Rattle.mid_base.specs.declared.steps.Why.{Why}
-use Rattle.mid_base.specs.declared.host_spec.HostSpec.{HostSpec}
-use Rattle.report_text.specs.Text.{text}
-use Rattle.first_script.specs.declared.script.Bad.{Bad}
+use Rattle.report_text.specs.Text.{HostJournal, host_text, text}
+use Rattle.report_text.specs.Order.{ascending}
+use Rattle.script_text.specs.declared.script.Bad.{Bad}
+use Rattle.play_top.specs.Played.{HostRun, is_named}
 
--- the text of one host's journal and the skipped step lines
-abbrev pub played_text : HostSpec → List Entry → List (ℕ × Why) → List ℕ
-played_text spec journal skips = text (record { number = spec.no.0; cmds = spec.cmds; journal = journal } ∷ []) skips
+abbrev pub journal_of : HostRun → HostJournal
+journal_of run = record { number = run.spec.no.0; cmds = run.spec.cmds; journal = reverse run.entries }
+
+abbrev pub run_text : HostRun → List ℕ
+run_text run = host_text run.spec.no.0 run.spec.cmds (reverse run.entries)
+
+-- the lines of a host, if it has this number
+abbrev pub named_text : ℕ → HostRun → List ℕ
+named_text number run = if is_named number run then run_text run else []
+
+-- the lines of hosts, in ascending numbers
+abbrev pub hosts_text : List HostRun → List ℕ
+hosts_text runs = flat_map (λ h. host_text h.number h.cmds h.journal) (ascending (λ h. h.number) (map journal_of runs))
+
+-- the text of the hosts' journals and the skipped step lines
+abbrev pub played_text : List HostRun → List (ℕ × Why) → List ℕ
+played_text runs skips = text (map journal_of runs) skips
 
 abbrev pub bad_text : Bad → List ℕ
 bad_text bad = codes "bad line " ++ (decimal bad.line ++ (codes " kind " ++ (decimal bad.kind ++ codes "\n")))

@@ -1,9 +1,12 @@
-//! Plays a script: reads it, makes its steps on a host over a lower layer that answers every attempt GOOD, and writes the
-//! journal with the results.
+//! Plays a script: reads it, makes its steps on its hosts, each over a simulated adapter, and writes their journals with the
+//! results.
 #![tactic(auto)]
 
+mod host;
 mod playing;
 mod reading;
+#[cfg(test)]
+mod rows;
 mod status;
 #[cfg(test)]
 mod tests;

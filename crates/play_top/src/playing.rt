@@ -1,76 +1,83 @@
-ghost use Rattle.std.specs.Prelude.{◌≡◌, [], ◌∷◌, ◌++◌, length, reverse, IfOk, OnOk};
-ghost use Rattle.first_script.specs.Playable.{IsPlayable, IsPlayableStep};
-ghost use Rattle.play_top.specs.Played.{ArePlayable, Comes, Plays, Ran, skip_of};
+ghost use Rattle.std.specs.Prelude.{◌≡◌, ◌++◌, map, All, IfOk, OnOk};
+ghost use Rattle.std.specs.List.{position};
+ghost use Rattle.mid_base.specs.Limits.{KeepsLimits};
+ghost use Rattle.script_text.specs.Playable.{IsPlayable, IsStepOf, IsStepOnSome};
+ghost use Rattle.script_text.specs.Said.{host_of};
+ghost use Rattle.play_top.specs.Played.{ComesOn, IsNumbered, IsRun, Plays, Ran, is_named, skip_of, specs_of, unplayed};
 
-use first_script::Script;
-use fixed_lower::FixedLower;
-use mid_base::{Did, HostNo, HostSpec, NoMemory, Rows, Step, Why};
-use mid_core::Core;
+use crate::host::Host;
+use mid_base::{HostNo, HostSpec, NoMemory, Rows, Step, Why};
+use script_text::Script;
 use std::alloc::Global;
 
-/// A host after its steps, and the step lines that were skipped: their numbers, and why.
+/// The hosts after their steps, in the order of the script, and the step lines that were skipped: their numbers, and why.
 #[derive(Drop)]
 pub struct Played {
-    pub core: Core<FixedLower>,
+    pub hosts: Vec<Host>,
     pub skips: Vec<(u64, Why)>,
 }
 
-/// Makes the steps of a script on its host.
+/// Makes the steps of a script on its hosts.
 pub fn play_script(alloc: Global, script: Script) -> Result<Played, NoMemory>
     requires { IsPlayable script }
-    ensures { IfOk result (λ played. Ran script played.core.spec played.core.journal played.skips.items) }
+    ensures ran { IfOk result (λ played. Ran script played.hosts.items played.skips.items) }
+    ensures numbers { IfOk result (λ played. All IsNumbered played.hosts.items) }
 {
     let Script { hosts, steps, .. } = script;
-    let host = only_host(hosts);
-    let core = Core::new(alloc, host, Rows::new(alloc), FixedLower::new(alloc))?;
-    let played = play_steps(alloc, core, steps.as_slice())?;
-    // Its journal is legal, and the lower layer stands where it leaves it.
-    let _ = played.core.journal();
-    Ok(played)
+    let mut hosts = start(alloc, hosts)?;
+    let skips = play_steps(alloc, &mut hosts, steps.as_slice())?;
+    know_runs(&hosts);
+    Ok(Played { hosts, skips })
 }
 
-// The host of a script that has one.
-fn only_host(hosts: Rows<HostSpec>) -> HostSpec
-    requires { length hosts ≡ 1 }
-    ensures { hosts ≡ result ∷ [] }
+// Hosts with these specs, to which nothing has happened yet.
+fn start(alloc: Global, specs: Rows<HostSpec>) -> Result<Vec<Host>, NoMemory>
+    requires { All KeepsLimits specs }
+    ensures { IfOk result (λ hosts. hosts.items ≡ map unplayed specs) }
 {
-    match hosts.into_vec().pop() {
-        Some(host) => host,
-        None => unreachable!(),
+    let mut hosts = Vec::new(alloc);
+    for spec in specs.into_vec() {
+        let host = Host::new(alloc, spec)?;
+        hosts.push(host).map_err(|_| NoMemory)?;
     }
+    Ok(hosts)
 }
 
 // Makes steps one after the other.
 fn play_steps(
     alloc: Global,
-    core: Core<FixedLower>,
+    hosts: &mut [Host],
     steps: &[(u64, HostNo, Step)],
-) -> Result<Played, NoMemory>
-    requires { ArePlayable steps.now }
-    ensures plays { IfOk result (λ played. Plays core.spec steps.now (reverse core.journal) (reverse played.core.journal) played.skips.items) }
-    ensures spec { IfOk result (λ played. played.core.spec ≡ core.spec) }
+) -> Result<Vec<(u64, Why)>, NoMemory>
+    requires { All (IsStepOf (specs_of hosts.old)) steps.now }
+    ensures plays { IfOk result (λ skips. Plays steps.now hosts.old hosts.new skips.items) }
+    ensures specs { IfOk result (λ skips. specs_of hosts.new ≡ specs_of hosts.old) }
 {
-    let mut core = core;
     let mut skips = Vec::new(alloc);
-    for (line, _, step) in steps {
-        let why = make_step(&mut core, *step)?;
+    for (line, no, step) in steps {
+        let why = make_step(hosts, *no, *step)?;
         note(&mut skips, *line, why)?;
     }
-    Ok(Played { core, skips })
+    Ok(skips)
 }
 
-// Makes one step, and says why it was skipped.
-fn make_step(core: &mut Core<FixedLower>, step: Step) -> Result<Option<Why>, NoMemory>
-    requires { IsPlayableStep step }
-    ensures comes { IfOk result (λ why. Comes core.old.spec (reverse core.old.journal) step why (reverse core.new.journal)) }
-    ensures spec { IfOk result (λ why. core.new.spec ≡ core.old.spec) }
+// Makes one step on the host that it names, and says why it was skipped.
+fn make_step(hosts: &mut [Host], no: HostNo, step: Step) -> Result<Option<Why>, NoMemory>
+    requires { IsStepOnSome (host_of (specs_of hosts.old) no.0) step }
+    ensures comes { IfOk result (λ why. ComesOn hosts.old no.0 step why hosts.new) }
+    ensures specs { IfOk result (λ why. specs_of hosts.new ≡ specs_of hosts.old) }
 {
-    // Where the lower layer stands says that each answer was GOOD.
-    let _ = core.journal();
-    match core.step(step)? {
-        Did::Done => Ok(None),
-        Did::Skipped(why) => Ok(Some(why)),
-    }
+    let Some(place) = place_of(hosts, no.0) else {
+        unreachable!();
+    };
+    let why = hosts[place].make(step)?;
+    Ok(why)
+}
+
+fn place_of(hosts: &[Host], number: u8) -> Option<usize>
+    ensures { result ≡ position (is_named number) hosts.now }
+{
+    hosts.iter().position(|host| host.spec().no.0 == number)
 }
 
 // Keeps a step line that was skipped.
@@ -83,5 +90,14 @@ fn note(skips: &mut Vec<(u64, Why)>, line: u64, why: Option<Why>) -> Result<(), 
             Err(_) => Err(NoMemory),
         },
         None => Ok(()),
+    }
+}
+
+// What holds of each host's journal. It does nothing.
+fn know_runs(hosts: &[Host])
+    ensures { All IsRun hosts.now }
+{
+    for host in hosts {
+        let _ = host.journal();
     }
 }

@@ -2,9 +2,9 @@ ghost use Rattle.std.specs.Prelude.{◌≡◌, ◌≤◌, IfOk, OnOk};
 ghost use Rattle.mid_io.specs.Whole.{TakesAtMost};
 ghost use Rattle.play_top.specs.Reading.{ReadsScript, ScriptReads, most_bytes};
 
-use first_script::{Bad, ReadEnd, Reader, Script};
 use mid_base::NoMemory;
 use mid_io::{ReadFault, Source, read_all};
+use script_text::{Bad, ReadEnd, Reader, Script};
 use std::alloc::Global;
 
 // The longest script and one byte more, which is enough to see that a script is too long.

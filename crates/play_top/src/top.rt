@@ -14,13 +14,14 @@ use mid_io::{Sink, Source, write_all};
 use report_text::WriteEnd;
 use std::alloc::Global;
 
-/// Plays the script of a source and writes its journal.
+/// Plays the script of a source and writes the journals of its hosts.
 ///
 /// `words` are those of the command line without the program's name; as yet only the empty list is one that is known.
 ///
-/// A script is played by its step lines. What is written is, for its host, a line `host H`, a line `TICK TEXT` for each
-/// entry of its journal and a line `result ..` for its command; then a line `skipped LINE WHY` for each step line that
-/// wasn't enabled, and the line `end`.
+/// A script is played by its step lines, in their order, each on the host that it names; each host's lower layer is a
+/// simulated adapter with the planned faults of that host. What is written is, for each host in ascending numbers, a line
+/// `host H`, a line `TICK TEXT` for each entry of its journal and a line `result ..` for each of its commands; then a line
+/// `skipped LINE WHY` for each step line that wasn't enabled, and the line `end`.
 ///
 /// The status says what came of it; where memory runs out it is 7, whatever else holds.
 pub fn play<S: Source, K: Sink>(alloc: Global, words: &[String], src: &mut S, out: &mut K) -> Status

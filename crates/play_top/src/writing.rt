@@ -1,29 +1,76 @@
-ghost use Rattle.std.specs.Prelude.{◌≤◌, ◌≡◌, IfOk, string_bytes};
+ghost use Rattle.std.specs.Prelude.{◌≤◌, ◌≡◌, All, IfOk, string_bytes};
+ghost use Rattle.std.specs.List.{flat_map};
 ghost use Rattle.report_text.specs.Ends.{WritesText};
-ghost use Rattle.play_top.specs.Texts.{bad_text, played_text};
+ghost use Rattle.play_top.specs.Played.{IsNumbered};
+ghost use Rattle.play_top.specs.Texts.{bad_text, hosts_text, named_text, played_text};
 
+use crate::host::Host;
 use crate::playing::Played;
-use first_script::Bad;
 use mid_io::{Sink, write_all};
 use report_text::{WriteEnd, write_host, write_skips};
+use script_text::Bad;
 use std::alloc::{AllocError, Global};
 
-/// Writes the journal of a host with the results of its commands, and the step lines that were skipped.
+/// Writes the journals of the hosts, in ascending numbers, with the results of their commands, and the step lines that were
+/// skipped.
 pub fn write_played<K: Sink>(alloc: Global, played: &Played, out: &mut K) -> Result<(), WriteEnd>
-    ensures answer { WritesText (K.written out.old) (K.written out.new) (played_text played.now.core.spec played.now.core.journal played.now.skips.items) (K.faults out.old) (K.faults out.new) result }
+    requires { All IsNumbered played.now.hosts.items }
+    ensures answer { WritesText (K.written out.old) (K.written out.new) (played_text played.now.hosts.items played.now.skips.items) (K.faults out.old) (K.faults out.new) result }
     ensures later { K.faults out.old ≤ K.faults out.new }
 {
-    let host = played.core.spec();
-    if let Err(end) = write_host(
-        alloc,
-        host.no,
-        host.cmds.as_slice(),
-        played.core.journal(),
-        out,
-    ) {
+    if let Err(end) = write_hosts(alloc, &played.hosts, out) {
         return Err(end);
     }
     write_skips(alloc, &played.skips, out)
+}
+
+// Writes the hosts with each number in turn.
+fn write_hosts<K: Sink>(alloc: Global, hosts: &[Host], out: &mut K) -> Result<(), WriteEnd>
+    requires { All IsNumbered hosts.now }
+    ensures answer { WritesText (K.written out.old) (K.written out.new) (hosts_text hosts.now) (K.faults out.old) (K.faults out.new) result }
+    ensures later { K.faults out.old ≤ K.faults out.new }
+{
+    for number in 0..64 {
+        if let Err(end) = write_named(alloc, hosts, number, out) {
+            return Err(end);
+        }
+    }
+    Ok(())
+}
+
+// Writes the hosts that have this number.
+fn write_named<K: Sink>(
+    alloc: Global,
+    hosts: &[Host],
+    number: u8,
+    out: &mut K,
+) -> Result<(), WriteEnd>
+    ensures answer { WritesText (K.written out.old) (K.written out.new) (flat_map (named_text number) hosts.now) (K.faults out.old) (K.faults out.new) result }
+    ensures later { K.faults out.old ≤ K.faults out.new }
+{
+    for host in hosts {
+        if let Err(end) = write_if_named(alloc, host, number, out) {
+            return Err(end);
+        }
+    }
+    Ok(())
+}
+
+// Writes a host if it has this number.
+fn write_if_named<K: Sink>(
+    alloc: Global,
+    host: &Host,
+    number: u8,
+    out: &mut K,
+) -> Result<(), WriteEnd>
+    ensures answer { WritesText (K.written out.old) (K.written out.new) (named_text number host.now) (K.faults out.old) (K.faults out.new) result }
+    ensures later { K.faults out.old ≤ K.faults out.new }
+{
+    let spec = host.spec();
+    if spec.no.0 != number {
+        return Ok(());
+    }
+    write_host(alloc, spec.no, spec.cmds.as_slice(), host.journal(), out)
 }
 
 /// Writes the line of a bad script.

@@ -1,17 +1,14 @@
-use Rattle.std.proofs.Common.{Bool, reverse, subst}
-use Rattle.mid_core.specs.Steps.{AddsTo}
-use Rattle.play_top.proofs.Steps.{behind, built, due_is}
+use Rattle.std.proofs.Common.{sym, ◌∙◌}
+use Rattle.play_top.proofs.Steps.{host_found, made_on, specs_kept}
 use Rattle.play_top.proofs.playing.make_step.Goals as goal
 
-pub step-requires-after_bounds : goal.step-requires-after_bounds
-step-requires-after_bounds c = λ l. built (reverse c.args.core.now.journal) c.args.step c.requires c.journal.ensures.stands.1
+pub unreachable-requires : goal.unreachable-requires
+unreachable-requires c = host_found c.args.no.0 c.args.hosts.now c.args.step c.requires (sym c.place_of.ensures ∙ c.in_default.is)
 
-pub returns-in-Done-clause-comes : goal.returns-in-Done-clause-comes
-returns-in-Done-clause-comes c =
-    let core = c.args.core.now in
-    let P = reverse core.journal in
-    let adds = rw c.in-Done.is at c.in_ok-step.ensures.answer in (
-      adds.group,
-      behind core.journal adds.group c.step.new.self.journal adds.journal,
-      subst (λ (due : Bool). AddsTo core.spec due P c.args.step adds.group) (due_is core.lower.held.items P c.journal.ensures.stands) adds.adds,
-    )
+pub returns-clause-comes : goal.returns-clause-comes
+returns-clause-comes c =
+    made_on c.args.hosts.now c.args.no.0 c.in-Some.place c.args.step c.in_ok-why.why c.index-hosts-place.result c.make.new.self
+    (sym c.place_of.ensures ∙ c.in-Some.is) c.in_ok-why.ensures.comes c.in_ok-why.ensures.spec
+
+pub returns-clause-specs : goal.returns-clause-specs
+returns-clause-specs c = specs_kept c.args.hosts.now c.in-Some.place c.index-hosts-place.result c.make.new.self c.in_ok-why.ensures.spec

@@ -1,24 +1,27 @@
-use Rattle.std.proofs.Common.{◌≡◌, [], ◌∷◌, sym, ap, ◌∙◌}
-use Rattle.mid_base.specs.declared.host_spec.HostSpec.{HostSpec}
-use Rattle.trace_model.proofs.Heads.{headline}
-use Rattle.play_top.proofs.Hosts.{one_command, first_plays}
-use Rattle.play_top.proofs.Steps.{played_steps}
+use Rattle.std.proofs.Common.{List, sym, ap, ◌∙◌, subst}
+use Rattle.std.specs.Prelude.{All}
+use Rattle.play_top.specs.Played.{HostRun, IsNumbered, IsRun, Ran, specs_of}
+use Rattle.play_top.proofs.Runs.{numbered, ran, started, steps_fit, written_back}
 use Rattle.play_top.proofs.playing.play_script.Goals as goal
 
-pub new-requires-3-clause-one : goal.new-requires-3-clause-one
-new-requires-3-clause-one c = λ l. one_command c.only_host-host.result (first_plays c.args.script.hosts c.only_host-host.result c.only_host-host.ensures c.requires.hosts)
+pub play_steps-requires : goal.play_steps-requires
+play_steps-requires c = steps_fit c.args.script c.as_slice.result.now c.deref_mut.result.now c.as_slice.ensures (c.deref_mut.ensures.value ∙ c.in_ok-hosts.ensures) c.requires.steps
 
-pub new-requires-3-clause-limits : goal.new-requires-3-clause-limits
-new-requires-3-clause-limits c = λ l. (first_plays c.args.script.hosts c.only_host-host.result c.only_host-host.ensures c.requires.hosts).limits
+pub returns-clause-ran : goal.returns-clause-ran
+returns-clause-ran c =
+    let new = c.play_steps.new.hosts in
+    let old = c.in_ok-hosts.hosts in
+    let start = c.deref_mut.ensures.value ∙ c.in_ok-hosts.ensures in
+    let back = written_back new old.items old.len (c.in_ok-skips.ensures.specs ∙ ap specs_of c.deref_mut.ensures.value) old.ok.0 in
+    subst (λ (runs : List HostRun). Ran c.args.script runs c.in_ok-skips.skips.items) (sym back)
+    (ran c.args.script c.as_slice.result.now c.deref_mut.result.now new c.in_ok-skips.skips.items c.as_slice.ensures start c.in_ok-skips.ensures.plays c.in_ok-skips.ensures.specs
+    (subst (λ (runs : List HostRun). All IsRun runs) (c.deref.ensures.value ∙ back) c.know_runs.ensures))
 
-pub returns : goal.returns
-returns c =
-    let played = c.in_ok-played.played in
-    let spec : played.core.spec ≡ c.only_host-host.result = c.in_ok-played.ensures.spec ∙ c.in_ok-core.ensures.spec in
-    record {
-      host = c.only_host-host.ensures ∙ ap (λ (h : HostSpec). h ∷ []) (sym spec);
-      steps = played_steps c.args.script.steps c.as_slice.result.now c.in_ok-core.core.spec played.core.spec c.in_ok-core.core.journal played.core.journal played.skips.items
-          c.as_slice.ensures c.in_ok-played.ensures.spec c.in_ok-core.ensures.journal c.in_ok-played.ensures.plays;
-      headline = headline played.core.spec played.core.journal c.journal.ensures.legal;
-      lower = c.journal.ensures.stands.1;
-    }
+pub returns-clause-numbers : goal.returns-clause-numbers
+returns-clause-numbers c =
+    let new = c.play_steps.new.hosts in
+    let old = c.in_ok-hosts.hosts in
+    let start = c.deref_mut.ensures.value ∙ c.in_ok-hosts.ensures in
+    let back = written_back new old.items old.len (c.in_ok-skips.ensures.specs ∙ ap specs_of c.deref_mut.ensures.value) old.ok.0 in
+    subst (λ (runs : List HostRun). All IsNumbered runs) (sym back)
+    (numbered c.args.script.hosts new (c.in_ok-skips.ensures.specs ∙ started c.args.script.hosts c.deref_mut.result.now start) c.requires.limits)

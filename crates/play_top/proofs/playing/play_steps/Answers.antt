@@ -6,13 +6,14 @@ use Rattle.mid_base.specs.declared.steps.Step.TheVariants.{Submit}
 use Rattle.play_top.proofs.Steps.{plays_more}
 use Rattle.play_top.proofs.playing.play_steps.Goals as goal
 
+abbrev no_step : ℕ × HostNo × Step
+no_step = (0, record { 0 = 0 }, Submit (record { 0 = 0 }))
+
 pub loop-line-preserved : goal.loop-line-preserved
 loop-line-preserved c =
-    let first : ℕ × HostNo × Step = (0, record { 0 = 0 }, Submit (record { 0 = 0 })) in
-    let here = get_or c.args.steps.now c.loop-line.line-index first in
+    let here = get_or c.args.steps.now c.loop-line.line-index no_step in
     record {
-      plays = rw (take_more c.args.steps.now c.loop-line.line-index first c.loop-line-test.true, c.in_ok-note.ensures)
-          (plays_more c.args.core.spec (take c.loop-line.line-index c.args.steps.now) _ _ _ c.loop-line.skips.items here c.in_ok-why.why c.loop-line.invariant.plays
-          (rw c.loop-line.invariant.spec at c.in_ok-why.ensures.comes));
-      spec = c.in_ok-why.ensures.spec ∙ c.loop-line.invariant.spec;
+      plays = rw (take_more c.args.steps.now c.loop-line.line-index no_step c.loop-line-test.true, c.in_ok-note.ensures)
+          (plays_more (take c.loop-line.line-index c.args.steps.now) _ _ _ c.loop-line.skips.items here c.in_ok-why.why c.loop-line.invariant.plays c.in_ok-why.ensures.comes);
+      specs = c.in_ok-why.ensures.specs ∙ c.loop-line.invariant.specs;
     }

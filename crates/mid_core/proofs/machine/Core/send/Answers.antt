@@ -1,95 +1,141 @@
-use Rattle.std.proofs.Common.{reverse, ap, ◌∙◌, sym, refl, [], ◌∷◌}
-use Rattle.mid_base.specs.declared.entries.Entry.TheVariants.{Sent, Bounced}
-use Rattle.core_tables.specs.Stage.{tag_of}
-use Rattle.core_tables.proofs.Barred.{group_sent}
-use Rattle.core_tables.proofs.Tags.{same_tags}
-use Rattle.mid_core.specs.Steps.{who_was_busy}
-use Rattle.mid_core.proofs.Making.{added, back, added2, back2}
-use Rattle.mid_core.proofs.Stepping.{core_sent, core_bounced, fits, arms, may_bounce, busy_queued}
+use Rattle.std.proofs.Common.{reverse, refl, [], ◌∷◌}
+use Rattle.mid_base.specs.declared.entries.Entry.TheVariants.{Sent, Bounced, Told}
+use Rattle.mid_base.specs.Answers.{no_connect}
+use Rattle.mid_base.specs.Past.{ticks}
+use Rattle.trace_model.proofs.Making.{goes_on_back}
+use Rattle.command_table.proofs.Entries.{id_is}
+use Rattle.mid_core.proofs.Offered.{picked_id}
+use Rattle.mid_core.proofs.Groups.{group_stranded, stranded, group_handed, group_bounced}
+use Rattle.mid_core.proofs.Growing.{core_grows, added, back, added2, back2}
 use Rattle.mid_core.proofs.machine.Core.send.Goals as goal
 
-pub invariant_of-self-in-Taken : goal.invariant_of-self-in-Taken
-invariant_of-self-in-Taken g c =
+pub returns-in-Err : goal.returns-in-Err
+returns-in-Err g c =
     let core = c.self.invariant in
+    rw (← c.self.view_is) (refl, c.in-Err.ensures c.self.inside.spec (reverse c.self.inside.book.entries) core.runs (g.A.HostTemplate.is_due c.self.inside.lower 0))
+
+pub invariant_of-self-in-Ok-Report : goal.invariant_of-self-in-Ok-Report
+invariant_of-self-in-Ok-Report g c =
+    let core = c.self.invariant in
+    let laws = g.met.A.HostTemplate g.world.𝓛 g.world.𝓜 g.world.𝓡 ((λ s x. x), (λ x. x), (λ x. x), λ x. x) in
     let spec = c.self.inside.spec in
     let P = reverse c.self.inside.book.entries in
-    let k = c.command.result.now in
-    let o = c.next_sending-o.result in
-    let next = c.next_sending-o.ensures in
-    let ready = c.in_default.ensures.ready tt refl in
-    let stood = c.in_ok-reserve-2.ensures.stands spec c.self.inside.before P core.stood in
-    let taken = (rw c.in-Taken.is at c.in_ok-busy.ensures.ok) spec c.self.inside.before P k.id k o.tag
-    (fits _ _ _ _ _ _ core k o.attempt.0 c.now.result.0 c.command.ensures next.0 c.now.ensures) stood in
-    rw (back c.self.inside.book.entries _ _ (Sent k.id o.attempt o.tag) c.in_ok-reserve.ensures.entries c.push.ensures.entries, c.command.ensures)
-    (core_sent _ _ _ _ _ _ core c.queue.new.self c.send.new.self o ready.0 ready.1 next.0 next.1 (rw c.command.ensures at taken)
-    (c.send.ensures.runs spec P core.runs) (c.send.ensures.shows _ core.shows))
+    let r = c.self.inside.running in
+    let i = c.in-Ok-Report.place in
+    let h = (rw c.in-Ok-Report.field-0-is at c.in-Ok-Report.ensures) spec P core.runs in
+    let there = picked_id spec P r i h.picked in
+    let id = id_is i r.commands.rows.items c.command.result h.picked.command.id c.command.ensures there in
+    rw (back c.self.inside.book.entries _ _ (Told c.command.result.id c.not_connected.result) c.in_ok-reserve-in-Ok-Report.ensures.entries c.push.ensures.entries, id, c.not_connected.ensures)
+    (core_grows _ _ _ _ _ P (Told h.picked.command.id no_connect ∷ []) _ _ core
+    (group_stranded spec P r core.runs i _ h refl)
+    (laws.silent c.self.inside.lower spec c.self.inside.before P (Told h.picked.command.id no_connect) tt core.stood)
+    (c.strand.ensures.runs spec P h.picked.command.id no_connect there core.runs))
 
-pub invariant_of-self-in_default-2 : goal.invariant_of-self-in_default-2
-invariant_of-self-in_default-2 g c =
-    let core = c.self.invariant in
-    let spec = c.self.inside.spec in
-    let P = reverse c.self.inside.book.entries in
-    let k = c.command.result.now in
-    let o = c.next_sending-o.result in
-    let q = c.in_ok-busy.busy in
-    let next = c.next_sending-o.ensures in
-    let ready = c.in_default.ensures.ready tt refl in
-    let stood = c.in_ok-reserve-2.ensures.stands spec c.self.inside.before P core.stood in
-    let told = c.in_ok-busy.ensures.ok spec c.self.inside.before P k.id k o.tag
-    (fits _ _ _ _ _ _ core k o.attempt.0 c.now.result.0 c.command.ensures next.0 c.now.ensures) stood in
-    let bounced = rw (busy_queued q k.id o.attempt o.tag P c.in_default-2.not-Taken) at told in
-    let sent = c.send-in_default-2.ensures.runs spec P core.runs in
-    let again = rw c.send-in_default-2.ensures.command at (c.bounce.ensures.runs spec (Sent c.self.inside.running.command.id o.attempt o.tag ∷ P) (who_was_busy q) sent) in
-    rw (back2 c.self.inside.book.entries _ _ _ (Sent k.id o.attempt o.tag) (Bounced k.id o.attempt c.busy_of.result) c.in_ok-reserve.ensures.entries c.push-in_default-2.ensures.entries c.push-in_default-2-2.ensures.entries, c.command.ensures, c.busy_of.ensures)
-    (core_bounced _ _ _ _ _ _ core c.queue.new.self c.bounce.new.self o q ready.0 ready.1 next.0 next.1 (rw c.command.ensures at bounced)
-    again (c.bounce.ensures.shows _ (c.send-in_default-2.ensures.shows _ core.shows)))
-
-pub returns-in-Taken : goal.returns-in-Taken
-returns-in-Taken g c =
+pub returns-in_ok-reserve-in-Ok-Report : goal.returns-in_ok-reserve-in-Ok-Report
+returns-in_ok-reserve-in-Ok-Report g c =
     let core = c.self.invariant in
     let spec = c.self.inside.spec in
     let P = reverse c.self.inside.book.entries in
     let r = c.self.inside.running in
-    let k = c.command.result.now in
-    let o = c.next_sending-o.result in
-    let next = c.next_sending-o.ensures in
-    let ready = c.in_default.ensures.ready tt refl in
+    let i = c.in-Ok-Report.place in
+    let h = (rw c.in-Ok-Report.field-0-is at c.in-Ok-Report.ensures) spec P core.runs in
+    let id = id_is i r.commands.rows.items c.command.result h.picked.command.id c.command.ensures (picked_id spec P r i h.picked) in
     rw (← c.self.view_is) (record {
       spec = refl;
       before = refl;
-      group = Sent k.id o.attempt o.tag ∷ [];
-      journal = added c.self.inside.book.entries _ _ (Sent k.id o.attempt o.tag) c.in_ok-reserve.ensures.entries c.push.ensures.entries;
-      adds = rw c.command.ensures (record {
-        opened = refl;
-        added = group_sent spec P r o core.runs ready.0 ready.1 next.0 next.1;
-        free = c.barred.ensures.why tt spec P core.runs ∙ c.in_default.is;
-      });
+      group = Told h.picked.command.id no_connect ∷ [];
+      journal = added c.self.inside.book.entries _ _ (Told h.picked.command.id no_connect) c.in_ok-reserve-in-Ok-Report.ensures.entries (rw (id, c.not_connected.ensures) at c.push.ensures.entries);
+      adds = record {
+        opened = stranded spec P r core.runs i _ h refl;
+        added = group_stranded spec P r core.runs i _ h refl;
+        free = h.free (g.A.HostTemplate.is_due c.self.inside.lower (ticks P));
+      };
       enters = refl;
-      tags = arms spec.can_queue r c.send.new.self o core.shows (c.send.ensures.shows _ core.shows) ready.0 c.send.ensures.stage next.1;
+      tags = c.strand.ensures.shown;
     })
 
-pub returns-in_default-2 : goal.returns-in_default-2
-returns-in_default-2 g c =
+pub invariant_of-self-in-None : goal.invariant_of-self-in-None
+invariant_of-self-in-None g c =
     let core = c.self.invariant in
     let spec = c.self.inside.spec in
     let P = reverse c.self.inside.book.entries in
     let r = c.self.inside.running in
-    let k = c.command.result.now in
-    let o = c.next_sending-o.result in
-    let q = c.in_ok-busy.busy in
-    let next = c.next_sending-o.ensures in
-    let ready = c.in_default.ensures.ready tt refl in
+    let o = c.in_ok-handed-in-Ok-Send.handed in
+    let made = c.in_ok-handed-in-Ok-Send.ensures in
+    let may = (rw (c.in-Ok-Send.field-0-is, ← c.in-Ok-Send.place-is) at c.in-Ok-Send.ensures) spec P core.runs in
+    let told = made.runs P core.runs may in
+    rw (back c.self.inside.book.entries _ _ (Sent o.id o.attempt o.tag) c.in_ok-reserve-in-Ok-Send.ensures.entries c.push-in-Ok-Send.ensures.entries)
+    (core_grows _ _ _ _ _ P (Sent o.id o.attempt o.tag ∷ []) _ _ core
+    (group_handed spec P r c.hand_over.new.running core.runs _ may o told)
+    (rw c.in-None.is at (made.stands P c.self.inside.before core.runs may core.stood))
+    (rw c.in-None.is at told.runs))
+
+pub returns-in-None : goal.returns-in-None
+returns-in-None g c =
+    let core = c.self.invariant in
+    let spec = c.self.inside.spec in
+    let P = reverse c.self.inside.book.entries in
+    let r = c.self.inside.running in
+    let o = c.in_ok-handed-in-Ok-Send.handed in
+    let made = c.in_ok-handed-in-Ok-Send.ensures in
+    let may = (rw (c.in-Ok-Send.field-0-is, ← c.in-Ok-Send.place-is) at c.in-Ok-Send.ensures) spec P core.runs in
+    let told = made.runs P core.runs may in
     rw (← c.self.view_is) (record {
       spec = refl;
       before = refl;
-      group = Sent k.id o.attempt o.tag ∷ Bounced k.id o.attempt c.busy_of.result ∷ [];
-      journal = added2 c.self.inside.book.entries _ _ _ (Sent k.id o.attempt o.tag) (Bounced k.id o.attempt c.busy_of.result) c.in_ok-reserve.ensures.entries c.push-in_default-2.ensures.entries c.push-in_default-2-2.ensures.entries;
-      adds = rw (c.command.ensures, c.busy_of.ensures) (record {
+      group = Sent o.id o.attempt o.tag ∷ [];
+      journal = added c.self.inside.book.entries _ _ (Sent o.id o.attempt o.tag) c.in_ok-reserve-in-Ok-Send.ensures.entries c.push-in-Ok-Send.ensures.entries;
+      adds = record {
         opened = refl;
-        added = (group_sent spec P r o core.runs ready.0 ready.1 next.0 next.1, may_bounce _ _ _ _ _ _ core o q);
-        free = c.barred.ensures.why tt spec P core.runs ∙ c.in_default.is;
-      });
+        added = group_handed spec P r c.hand_over.new.running core.runs _ may o told;
+        free = may.turn.free (g.A.HostTemplate.is_due c.self.inside.lower (ticks P));
+      };
       enters = refl;
-      tags = same_tags spec.can_queue r c.bounce.new.self core.shows (c.bounce.ensures.shows _ (c.send-in_default-2.ensures.shows _ core.shows))
-          (ap tag_of c.bounce.ensures.stage ∙ sym (ap tag_of ready.0));
+      tags = rw c.in-None.is at made.shown;
+    })
+
+pub invariant_of-self-in-Some : goal.invariant_of-self-in-Some
+invariant_of-self-in-Some g c =
+    let core = c.self.invariant in
+    let spec = c.self.inside.spec in
+    let P = reverse c.self.inside.book.entries in
+    let r = c.self.inside.running in
+    let o = c.in_ok-handed-in-Ok-Send.handed in
+    let made = c.in_ok-handed-in-Ok-Send.ensures in
+    let may = (rw (c.in-Ok-Send.field-0-is, ← c.in-Ok-Send.place-is) at c.in-Ok-Send.ensures) spec P core.runs in
+    let told = made.runs P core.runs may in
+    let sent = Sent o.id o.attempt o.tag in
+    let why = c.in-Some.why in
+    rw (back2 c.self.inside.book.entries _ _ _ sent (Bounced o.id o.attempt why) c.in_ok-reserve-in-Ok-Send.ensures.entries c.push-in-Ok-Send.ensures.entries c.push-in-Some.ensures.entries) (record {
+      legal =
+          goes_on_back spec (sent ∷ P) (Bounced o.id o.attempt why ∷ [])
+          (goes_on_back spec P (sent ∷ []) core.legal (group_handed spec P r c.hand_over.new.running core.runs _ may o told))
+          (group_bounced spec P o.id o.attempt o.tag why);
+      stood = rw c.in-Some.is at (made.stands P c.self.inside.before core.runs may core.stood);
+      runs = rw c.in-Some.is at told.runs;
+    })
+
+pub returns-in-Some : goal.returns-in-Some
+returns-in-Some g c =
+    let core = c.self.invariant in
+    let spec = c.self.inside.spec in
+    let P = reverse c.self.inside.book.entries in
+    let r = c.self.inside.running in
+    let o = c.in_ok-handed-in-Ok-Send.handed in
+    let made = c.in_ok-handed-in-Ok-Send.ensures in
+    let may = (rw (c.in-Ok-Send.field-0-is, ← c.in-Ok-Send.place-is) at c.in-Ok-Send.ensures) spec P core.runs in
+    let told = made.runs P core.runs may in
+    let why = c.in-Some.why in
+    rw (← c.self.view_is) (record {
+      spec = refl;
+      before = refl;
+      group = Sent o.id o.attempt o.tag ∷ Bounced o.id o.attempt why ∷ [];
+      journal = added2 c.self.inside.book.entries _ _ _ (Sent o.id o.attempt o.tag) (Bounced o.id o.attempt why) c.in_ok-reserve-in-Ok-Send.ensures.entries c.push-in-Ok-Send.ensures.entries c.push-in-Some.ensures.entries;
+      adds = record {
+        opened = refl;
+        added = (group_handed spec P r c.hand_over.new.running core.runs _ may o told, group_bounced spec P o.id o.attempt o.tag why);
+        free = may.turn.free (g.A.HostTemplate.is_due c.self.inside.lower (ticks P));
+      };
+      enters = refl;
+      tags = rw c.in-Some.is at made.shown;
     })

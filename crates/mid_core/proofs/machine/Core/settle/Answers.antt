@@ -1,10 +1,10 @@
-use Rattle.std.proofs.Common.{reverse, ◌∙◌, refl, [], ◌∷◌}
+use Rattle.std.proofs.Common.{reverse, ◌∙◌, sym, refl, [], ◌∷◌}
 use Rattle.mid_base.specs.declared.answers.By.TheVariants.{Answer as ByAnswer}
-use Rattle.mid_base.specs.declared.answers.Disp.TheVariants.{Success}
-use Rattle.mid_base.specs.declared.entries.Entry.TheVariants.{Judged, Told}
-use Rattle.core_tables.proofs.Barred.{answer_owned, group_judged}
-use Rattle.mid_core.proofs.Making.{added2, back2}
-use Rattle.mid_core.proofs.Stepping.{core_judged, opens_judged, frees_tag}
+use Rattle.mid_base.specs.declared.entries.Entry.TheVariants.{Judged}
+use Rattle.mid_base.specs.Past.{ticks}
+use Rattle.mid_core.specs.Choices.{follow_of}
+use Rattle.mid_core.proofs.Groups.{group_judged, nothing_bars_settling, opens_judged, follow_silent, follow_enters}
+use Rattle.mid_core.proofs.Growing.{core_grows, added2, back2}
 use Rattle.mid_core.proofs.machine.Core.settle.Goals as goal
 
 pub invariant_of-self-2 : goal.invariant_of-self-2
@@ -12,13 +12,19 @@ invariant_of-self-2 g c =
     let core = c.self.invariant in
     let laws = g.met.A.HostTemplate g.world.𝓛 g.world.𝓜 g.world.𝓡 ((λ s x. x), (λ x. x), (λ x. x), λ x. x) in
     let spec = c.self.inside.spec in
+    let before = c.self.inside.before in
     let P = reverse c.self.inside.book.entries in
-    let r = c.self.inside.running in
-    let a = c.owned_answer-a.result in
-    let owned = c.owned_answer-a.ensures in
-    let good = (rw (← c.self.view_is) at c.requires) a (answer_owned spec P r c.args.n owned.0 a core.runs owned.1 owned.2) in
-    rw (back2 c.self.inside.book.entries _ _ _ (Judged c.command.result.now.id c.args.n Success) (Told c.command.result.now.id a) c.in_ok-reserve.ensures.entries c.push.ensures.entries c.push-2.ensures.entries, c.command.ensures)
-    (core_judged _ _ _ _ _ _ core c.tell.new.self c.args.n owned.0 a (laws.silent c.self.inside.lower) owned.1 owned.2 good (c.tell.ensures.runs _ _ core.runs) (c.tell.ensures.shows _ core.shows))
+    let n = c.args.n in
+    let row = c.in-Some.row in
+    let a = c.in-Owned.a in
+    let d = c.judge-disposition.result in
+    let follow = follow_of row.command n a d in
+    let silent = laws.silent c.self.inside.lower spec before in
+    rw (back2 c.self.inside.book.entries _ _ _ (Judged row.command n d) c.in_ok-follows.follows c.in_ok-reserve.ensures.entries c.push.ensures.entries c.push-2.ensures.entries, c.in_ok-follows.ensures.entry)
+    (core_grows _ _ _ _ _ P (Judged row.command n d ∷ follow ∷ []) _ _ core
+    (group_judged spec P c.self.inside.running core.runs n row a (sym c.attempt.ensures ∙ c.in-Some.is) d c.in-Owned.is (c.judge-disposition.ensures.disp P core.runs))
+    (silent (Judged row.command n d ∷ P) follow (follow_silent spec row.command n a d) (silent P (Judged row.command n d) tt core.stood))
+    (c.in_ok-follows.ensures.runs spec P core.runs))
 
 pub returns : goal.returns
 returns g c =
@@ -26,20 +32,22 @@ returns g c =
     let spec = c.self.inside.spec in
     let P = reverse c.self.inside.book.entries in
     let r = c.self.inside.running in
-    let a = c.owned_answer-a.result in
-    let owned = c.owned_answer-a.ensures in
-    let good = (rw (← c.self.view_is) at c.requires) a (answer_owned spec P r c.args.n owned.0 a core.runs owned.1 owned.2) in
-    let tag = frees_tag spec.can_queue r c.tell.new.self owned.0 a c.args.n core.shows (c.tell.ensures.shows _ core.shows) owned.1 c.tell.ensures.stage owned.2 in
+    let n = c.args.n in
+    let row = c.in-Some.row in
+    let a = c.in-Owned.a in
+    let d = c.judge-disposition.result in
+    let follow = follow_of row.command n a d in
+    let there = sym c.attempt.ensures ∙ c.in-Some.is in
     rw (← c.self.view_is) (record {
       spec = refl;
       before = refl;
-      group = Judged c.command.result.now.id c.args.n Success ∷ Told c.command.result.now.id a ∷ [];
-      journal = added2 c.self.inside.book.entries _ _ _ (Judged c.command.result.now.id c.args.n Success) (Told c.command.result.now.id a) c.in_ok-reserve.ensures.entries c.push.ensures.entries c.push-2.ensures.entries;
-      adds = rw c.command.ensures (record {
-        opened = opens_judged spec P r.command c.args.n;
-        added = group_judged spec P r c.args.n owned.0 a core.runs owned.1 owned.2 good;
-        free = c.barred.ensures.why tt spec P core.runs ∙ c.in_default.is;
-      });
-      enters = refl;
-      tags = (0, ByAnswer, tag.0, tag.1);
+      group = Judged row.command n d ∷ follow ∷ [];
+      journal = added2 c.self.inside.book.entries _ _ _ (Judged row.command n d) follow c.in_ok-reserve.ensures.entries c.push.ensures.entries (rw c.in_ok-follows.ensures.entry at c.push-2.ensures.entries);
+      adds = record {
+        opened = opens_judged spec P r core.runs n row a there d;
+        added = group_judged spec P r core.runs n row a there d c.in-Owned.is (c.judge-disposition.ensures.disp P core.runs);
+        free = nothing_bars_settling spec P r core.runs n row a there (g.A.HostTemplate.is_due c.self.inside.lower (ticks P)) c.in-Owned.is;
+      };
+      enters = follow_enters row.command row.command n n a d d;
+      tags = (row.tag.0, ByAnswer, c.in_ok-follows.ensures.shown.0, c.in_ok-follows.ensures.shown.1);
     })

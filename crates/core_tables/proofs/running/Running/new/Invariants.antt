@@ -1,6 +1,0 @@
-use Rattle.std.proofs.Common.{◌≡◌, replicate}
-use Rattle.mid_base.specs.declared.answers.TagState.TheVariants.{Free}
-use Rattle.core_tables.proofs.running.Running.new.Given as goal
-
-abbrev pub invariant-loop-i : goal.invariant-loop-i
-invariant-loop-i l = l.tags.items ≡ replicate l.i Free

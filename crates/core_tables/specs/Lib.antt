@@ -1,4 +1,0 @@
-pub mod Stage
-pub mod Runs
-pub mod Shows
-pub mod Ready

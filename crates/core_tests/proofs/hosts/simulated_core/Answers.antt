@@ -1,0 +1,8 @@
+use Rattle.std.proofs.Common.{[], sym, subst}
+use Rattle.host_template.specs.Standing.{Before}
+use Rattle.debug_adapter.specs.Adapter.{AdapterStands}
+use Rattle.core_tests.proofs.hosts.simulated_core.Goals as goal
+
+pub new-requires-3-clause-stands : goal.new-requires-3-clause-stands
+new-requires-3-clause-stands c κs =
+    subst (λ (b : Before). AdapterStands c.in_ok-adapter.adapter c.args.spec b []) (sym c.new-2.ensures) c.in_ok-adapter.ensures

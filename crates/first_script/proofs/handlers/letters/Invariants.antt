@@ -1,6 +1,0 @@
-use Rattle.std.proofs.Common.{◌≡◌, drop}
-use Rattle.first_script.specs.Words.{letters, bits_from, some_letters}
-use Rattle.first_script.proofs.handlers.letters.Given as goal
-
-abbrev pub invariant-loop-letter : goal.invariant-loop-letter
-invariant-loop-letter l = bits_from l.bits (drop l.letter-index letters) l.rest ≡ some_letters l.word

@@ -1,2 +1,0 @@
-pub mod LowerRun
-pub mod Laws

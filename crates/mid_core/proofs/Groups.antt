@@ -1,0 +1,260 @@
+-- The group of each step is one that the rules allow, and nothing bars the step.
+use Rattle.std.proofs.Common.{◌≡◌, ◌∙◌, sym, ap, subst, refl, ℕ, zero, suc, ◌+◌, ◌<◌, ◌==◌, Bool, true, false, not, ◌&&◌, ◌||◌, cond, List, [], ◌∷◌, None, Some, Ok, Err, arith}
+use Rattle.std.specs.Prelude.{nat_le, nat_lt}
+use Rattle.std.specs.List.{list_any, list_all}
+use Rattle.std.proofs.lemmas.Option.{same_Some}
+use Rattle.std.proofs.lemmas.Bool.{eq-eqb, lt-ltb, and_parts, false≢true}
+use Rattle.mid_base.specs.declared.answers.Answer.{Answer}
+use Rattle.mid_base.specs.declared.answers.BusyOf.{BusyOf}
+use Rattle.mid_base.specs.declared.answers.By.TheVariants.{Answer as ByAnswer}
+use Rattle.mid_base.specs.declared.answers.Disp.{Disp}
+use Rattle.mid_base.specs.declared.answers.Disp.TheVariants.{Success, Retry, Requeue, Fail}
+use Rattle.mid_base.specs.declared.entries.Entry.{Entry}
+use Rattle.mid_base.specs.declared.entries.Entry.TheVariants as entry
+use Rattle.mid_base.specs.declared.host_spec.CmdSpec.{CmdSpec}
+use Rattle.mid_base.specs.declared.host_spec.HostSpec.{HostSpec}
+use Rattle.mid_base.specs.declared.names.Attempt.{Attempt}
+use Rattle.mid_base.specs.declared.names.CmdId.{CmdId}
+use Rattle.mid_base.specs.declared.names.DevAddr.{DevAddr}
+use Rattle.mid_base.specs.declared.names.LaneNo.{LaneNo}
+use Rattle.mid_base.specs.declared.names.Tag.{Tag}
+use Rattle.mid_base.specs.declared.states.DeviceState.{DeviceState}
+use Rattle.mid_base.specs.declared.steps.Step.TheVariants as step
+use Rattle.mid_base.specs.declared.steps.Why.TheVariants.{Spent, Illegal as NotLegal}
+use Rattle.mid_base.specs.Address.{has_dev}
+use Rattle.mid_base.specs.Answers.{no_connect}
+use Rattle.mid_base.specs.Past.{ticks, sent_for}
+use Rattle.device_states.specs.States.{is_closed, may_become, set_or_refuse}
+use Rattle.device_states.specs.declared.tables.Illegal.{Illegal}
+use Rattle.trace_model.specs.Attempts.{attempts, answered, sends, is_open, is_answered, answer, late, owner, is_settled, is_due}
+use Rattle.trace_model.specs.Devices.{state, is_online, has_begun}
+use Rattle.trace_model.specs.Judging.{disp_of, to_judge}
+use Rattle.trace_model.specs.Legal.{Group}
+use Rattle.trace_model.specs.Names.{command, dev_of}
+use Rattle.trace_model.specs.Sending.{is_next_of_lane, is_refused, is_stranded, is_least_free}
+use Rattle.trace_model.specs.Steps.{barred, opens, most}
+use Rattle.trace_model.specs.Time.{is_expired, is_claimed}
+use Rattle.attempt_table.specs.declared.rows.Phase.TheVariants as phase
+use Rattle.attempt_table.specs.declared.rows.Row.{Row}
+use Rattle.attempt_table.specs.Rows.{row_of, claimed_in, claimed_at, owner_in, owner_at, settled_in, settled_at, answer_in, answer_at, command_in}
+use Rattle.host_state.specs.declared.running.Running.{Running}
+use Rattle.host_state.specs.Runs.{Runs}
+use Rattle.host_template.specs.Laws.{IsSilent}
+use Rattle.mid_core.specs.Steps.{may_enter}
+use Rattle.mid_core.specs.Choices.{IsHandedIn, HasTurn, MayBeSent, IsHanded, follow_of}
+use Rattle.mid_core.specs.declared.sending.Handed.{Handed}
+use Rattle.mid_core.proofs.Known.{picked_command}
+use Rattle.mid_core.proofs.Offered.{command_of}
+
+pub same : (n : ℕ) → (n == n) ≡ true
+same n = eq-eqb n n refl
+
+or_true : (b : Bool) → b || true ≡ true
+or_true true = refl
+or_true false = refl
+
+-- the command that is handed in
+module _ (s : HostSpec) (P : List Entry) (r : Running) (runs : Runs s P r) (lane : LaneNo) (i : ℕ) (closed : Bool) (h : IsHandedIn s P r lane i closed) where
+  named : command s h.next.command.id.0 ≡ h.next.command
+  named = command_of s P r runs i h.next.command h.next.stands_at
+
+  in_lane : (command s h.next.command.id.0).lane.0 ≡ lane.0
+  in_lane = ap (λ (k : CmdSpec). k.lane.0) named ∙ h.next.lane_is
+
+  is_next : is_next_of_lane s P h.next.command.id.0 ≡ true
+  is_next = rw (in_lane, h.next.next) (same h.next.command.id.0)
+
+  device_closed : is_closed (state s (dev_of s h.next.command.id.0) P) ≡ closed
+  device_closed = ap (λ (k : CmdSpec). is_closed (state s k.dev P)) named ∙ h.device
+
+  pub nothing_bars_handing : (due : Bool) → barred s due P (step.Submit lane) ≡ None
+  nothing_bars_handing due = rw h.next.next refl
+
+  pub opens_took : opens s P (step.Submit lane) (entry.Took h.next.command.id) ≡ true
+  opens_took = eq-eqb (command s h.next.command.id.0).lane.0 lane.0 in_lane
+
+  refused : closed ≡ true → is_refused s P h.next.command.id.0 ≡ true
+  refused off = rw (is_next, device_closed, off) refl
+
+  pub opens_refused : (a : Answer) → closed ≡ true → opens s P (step.Submit lane) (entry.Told h.next.command.id a) ≡ true
+  opens_refused a off = rw (eq-eqb (command s h.next.command.id.0).lane.0 lane.0 in_lane, refused off) refl
+
+  pub group_took : closed ≡ false → Group s P (entry.Took h.next.command.id ∷ [])
+  group_took on = (rw (is_next, device_closed, on) refl, tt)
+
+  pub group_refused : closed ≡ true → Group s P (entry.Told h.next.command.id no_connect ∷ [])
+  group_refused off = (rw (refused off) refl, tt)
+
+-- the command whose turn it is
+module _ (s : HostSpec) (P : List Entry) (r : Running) (runs : Runs s P r) (i : ℕ) (online : Bool) (h : HasTurn s P r i online) where
+  picked_online : is_online s (dev_of s h.picked.command.id.0) P ≡ online
+  picked_online = ap (λ (k : CmdSpec). is_online s k.dev P) (picked_command s P r runs i h.picked) ∙ h.device
+
+  pub stranded : online ≡ false → is_stranded s P h.picked.command.id.0 ≡ true
+  stranded off = rw (h.calm, h.picked.picked, picked_online, off, same h.picked.command.id.0) refl
+
+  pub group_stranded : online ≡ false → Group s P (entry.Told h.picked.command.id no_connect ∷ [])
+  group_stranded off = (rw (stranded off, or_true (is_refused s P h.picked.command.id.0)) refl, tt)
+
+  pub group_sent : online ≡ true → (n : Attempt) (t : Tag) → n.0 ≡ sends P + 1 → is_least_free s P t.0 ≡ true → Group s P (entry.Sent h.picked.command.id n t ∷ [])
+  group_sent on n t number least =
+      (rw (h.calm, h.picked.picked, picked_online, on, same h.picked.command.id.0, eq-eqb n.0 (sends P + 1) number, least) refl, tt)
+
+-- what was handed over was the command that is picked
+pub group_handed : (s : HostSpec) (P : List Entry) (r new : Running) → Runs s P r → (i : ℕ) (may : MayBeSent s P r i) (o : Handed) → IsHanded s P new i o
+    → Group s P (entry.Sent o.id o.attempt o.tag ∷ [])
+group_handed s P r new runs i may o told =
+    let picked = may.turn.picked in
+    let command : told.command ≡ picked.command = same_Some told.command picked.command (sym told.at ∙ picked.at) in
+    subst (λ (c : CmdId). Group s P (entry.Sent c o.attempt o.tag ∷ [])) (sym (told.id ∙ ap (λ (k : CmdSpec). k.id) command))
+    (group_sent s P r runs i true may.turn refl o.attempt o.tag told.number told.least)
+
+pub group_bounced : (s : HostSpec) (P : List Entry) (c : CmdId) (n : Attempt) (t : Tag) (why : BusyOf) → Group s (entry.Sent c n t ∷ P) (entry.Bounced c n why ∷ [])
+group_bounced s P c n t why = (rw (same c.0, same n.0) refl, tt)
+
+-- an attempt with an answer
+module _ (s : HostSpec) (P : List Entry) (r : Running) (runs : Runs s P r) (n : Attempt) (row : Row) (a : Answer) (at : row_of n.0 r.attempts.rows.items ≡ Some row) where
+  may_own : row.phase ≡ phase.Answered a → is_open n.0 P && is_answered n.0 P ≡ true
+  may_own is = (runs.attempts.rows n.0).2 ∙ ap claimed_in at ∙ ap claimed_at is
+
+  pub group_owned : row.phase ≡ phase.Answered a → Group s P (entry.Owned n ByAnswer ∷ [])
+  group_owned is = (may_own is, tt)
+
+  pub nothing_bars_owning : (due : Bool) → row.phase ≡ phase.Answered a → barred s due P (step.Own n ByAnswer) ≡ None
+  nothing_bars_owning due is =
+      let both = and_parts (is_open n.0 P) (is_answered n.0 P) (may_own is) in
+      rw (both.0, both.1) refl
+
+  pub opens_owned : opens s P (step.Own n ByAnswer) (entry.Owned n ByAnswer) ≡ true
+  opens_owned = rw (same n.0) refl
+
+  -- one that it owns
+  owned_by : row.phase ≡ phase.Owned a → owner n.0 P ≡ Some ByAnswer
+  owned_by is = (runs.attempts.rows n.0).4 ∙ ap owner_in at ∙ ap owner_at is
+
+  unsettled : row.phase ≡ phase.Owned a → is_settled n.0 P ≡ false
+  unsettled is = (runs.attempts.rows n.0).5 ∙ ap settled_in at ∙ ap settled_at is
+
+  pub nothing_bars_settling : (due : Bool) → row.phase ≡ phase.Owned a → barred s due P (step.Settle n) ≡ None
+  nothing_bars_settling due is = rw (owned_by is, unsettled is) refl
+
+  judging : row.phase ≡ phase.Owned a → to_judge P row.command.0 n.0 && not (has_begun P) ≡ true
+  judging is =
+      let sent : sent_for n.0 P ≡ row.command.0 = (runs.attempts.rows n.0).6 ∙ ap command_in at in
+      rw (owned_by is, unsettled is, sent, same row.command.0, runs.calm) refl
+
+  pub group_judged : (d : Disp) → row.phase ≡ phase.Owned a → d ≡ disp_of s P row.command.0 a → Group s P (entry.Judged row.command n d ∷ follow_of row.command n a d ∷ [])
+  group_judged d is right = by d right
+    where
+      told : answer n.0 P ≡ Some a
+      told = (runs.attempts.rows n.0).3 ∙ ap answer_in at ∙ ap answer_at is
+
+      by : (d : Disp) → d ≡ disp_of s P row.command.0 a → Group s P (entry.Judged row.command n d ∷ follow_of row.command n a d ∷ [])
+      by Success e = rw told ((judging is, e), (refl, tt))
+      by Retry e = rw told ((judging is, e), (refl, tt))
+      by Requeue e = rw told ((judging is, e), (refl, tt))
+      by Fail e = rw told ((judging is, e), (refl, tt))
+
+  pub opens_judged : (d : Disp) → opens s P (step.Settle n) (entry.Judged row.command n d) ≡ true
+  opens_judged d = same n.0
+
+-- time goes on
+none_claimed : (P : List Entry) (xs : List ℕ) (f : ℕ → Bool) → list_any (λ n. is_open n P && is_answered n P) xs ≡ false → list_any (λ n. f n || (is_open n P && is_due n P)) xs ≡ false → list_any (is_claimed P) xs ≡ false
+none_claimed P [] f a b = refl
+none_claimed P (x ∷ xs) f a b =
+    let first = no_either (is_open x P && is_answered x P) (list_any (λ n. is_open n P && is_answered n P) xs) a in
+    let second = no_either (f x || (is_open x P && is_due x P)) (list_any (λ n. f n || (is_open n P && is_due n P)) xs) b in
+    let due = (no_either (f x) (is_open x P && is_due x P) second.0).1 in
+    rw (unclaimed (is_open x P) (is_answered x P) (is_due x P) first.0 due) (none_claimed P xs f first.1 second.1)
+  where
+    no_either : (a b : Bool) → a || b ≡ false → (a ≡ false) × (b ≡ false)
+    no_either true b h = absurd (false≢true (sym h))
+    no_either false b h = (refl, h)
+
+    unclaimed : (o a d : Bool) → o && a ≡ false → o && d ≡ false → o && (a || d) ≡ false
+    unclaimed false a d p q = refl
+    unclaimed true false d p q = q
+    unclaimed true true d p q = absurd (false≢true (sym p))
+
+first_off : (f a b : Bool) → (f || a) || b ≡ false → (f ≡ false) × (b ≡ false)
+first_off true a b h = absurd (false≢true (sym h))
+first_off false true b h = absurd (false≢true (sym h))
+first_off false false b h = (refl, h)
+
+none_expired : (P : List Entry) (xs : List ℕ) (f : ℕ → Bool) → list_any (λ n. f n || (is_open n P && is_due n P)) xs ≡ false → list_any f xs ≡ false
+none_expired P [] f b = refl
+none_expired P (x ∷ xs) f b =
+    let here = first_off (f x) (is_open x P && is_due x P) (list_any (λ n. f n || (is_open n P && is_due n P)) xs) b in
+    rw here.0 (none_expired P xs f here.1)
+
+not_late : (m : ℕ) (b : Bool) → nat_lt 0 m || b ≡ false → ((m == 0) ≡ true) × (b ≡ false)
+not_late zero b h = (refl, h)
+not_late (suc m) b h = absurd (false≢true (sym h ∙ ap (λ (c : Bool). c || b) (lt-ltb 0 (suc m) (omega arith))))
+
+none_late : (P : List Entry) (xs : List ℕ) → list_any (λ n. nat_lt 0 (late n P)) xs ≡ false → list_all (λ n. late n P == 0) xs ≡ true
+none_late P [] h = refl
+none_late P (x ∷ xs) h =
+    let here = not_late (late x P) (list_any (λ n. nat_lt 0 (late n P)) xs) h in
+    rw here.0 (none_late P xs here.1)
+
+module _ (s : HostSpec) (P : List Entry)
+    (unclaimed : list_any (λ n. is_open n P && is_answered n P) (attempts P) || list_any (λ n. nat_lt 0 (late n P)) (answered P) ≡ false)
+    (unexpired : list_any (λ n. is_expired s P n || (is_open n P && is_due n P)) (attempts P) ≡ false) where
+  pub group_tick : Group s P (entry.Tick ∷ [])
+  group_tick =
+      let none = halves (list_any (λ n. is_open n P && is_answered n P) (attempts P)) (list_any (λ n. nat_lt 0 (late n P)) (answered P)) unclaimed in (
+        rw (none_claimed P (attempts P) (is_expired s P) none.0 unexpired, none_late P (answered P) none.1, none_expired P (attempts P) (is_expired s P) unexpired) refl,
+        tt,
+      )
+    where
+      halves : (a b : Bool) → a || b ≡ false → (a ≡ false) × (b ≡ false)
+      halves true b h = absurd (false≢true (sym h))
+      halves false b h = (refl, h)
+
+  pub nothing_bars_a_tick : (due : Bool) → due ≡ false → ticks P < most → barred s due P step.Tick ≡ None
+  nothing_bars_a_tick due idle early = rw (idle, unclaimed, unexpired) (by (nat_le most (ticks P)) (above most (ticks P) early))
+    where
+      by : (b : Bool) → b ≡ false → cond b (Some Spent) None ≡ None
+      by true is = cc
+      by false is = refl
+
+      above : (a b : ℕ) → b < a → nat_le a b ≡ false
+      above a b lt = grind arith
+
+-- a device goes to another state
+module _ (s : HostSpec) (P : List Entry) (d : DevAddr) (x : DeviceState) (calm : has_begun P ≡ false) (there : has_dev s.luns d ≡ true) (may : may_become (state s d P) x ≡ true) where
+  pub group_state : Group s P (entry.State d x ∷ [])
+  group_state = (rw (calm, there, may) refl, tt)
+
+  pub nothing_bars_a_state : (due : Bool) → barred s due P (step.SetState d x) ≡ None
+  nothing_bars_a_state due = rw (calm, there, may) refl
+
+-- what follows a judgement tells nothing of the lower layer, sends nothing and owns nothing
+pub follow_silent : (s : HostSpec) (c : CmdId) (n : Attempt) (a : Answer) (d : Disp) → IsSilent s (follow_of c n a d)
+follow_silent s c n a Success = tt
+follow_silent s c n a Retry = tt
+follow_silent s c n a Requeue = tt
+follow_silent s c n a Fail = tt
+
+pub follow_enters : (c k : CmdId) (n m : Attempt) (a : Answer) (d e : Disp) → list_all (may_enter (step.Settle m)) (entry.Judged c n e ∷ follow_of k n a d ∷ []) ≡ true
+follow_enters c k n m a Success e = refl
+follow_enters c k n m a Retry e = refl
+follow_enters c k n m a Requeue e = refl
+follow_enters c k n m a Fail e = refl
+
+-- a pair of states that isn't legal
+pub illegal_pair : (legal : Bool) (had asked : DeviceState) (x : Illegal DeviceState) → set_or_refuse legal had asked ≡ Err x → legal ≡ false
+illegal_pair true had asked x is = cc
+illegal_pair false had asked x is = refl
+
+pub legal_pair : (legal : Bool) (had asked x : DeviceState) → set_or_refuse legal had asked ≡ Ok x → legal ≡ true
+legal_pair true had asked x is = refl
+legal_pair false had asked x is = cc
+
+pub illegal_state : (s : HostSpec) (P : List Entry) (due : Bool) (d : DevAddr) (x : DeviceState) → has_begun P ≡ false → may_become (state s d P) x ≡ false
+    → barred s due P (step.SetState d x) ≡ Some NotLegal
+illegal_state s P due d x calm bad = rw (calm, bad, and_false (has_dev s.luns d)) refl
+  where
+    and_false : (b : Bool) → b && false ≡ false
+    and_false true = refl
+    and_false false = refl

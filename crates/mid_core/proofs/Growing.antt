@@ -1,0 +1,33 @@
+-- A core goes on by a group, and its journal grows at its end.
+use Rattle.std.proofs.Common.{◌≡◌, ◌∙◌, ap, List, [], ◌∷◌, ◌++◌, reverse, append_assoc}
+use Rattle.std.proofs.lemmas.List.{reverse-append}
+use Rattle.mid_base.specs.declared.entries.Entry.{Entry}
+use Rattle.mid_base.specs.declared.host_spec.HostSpec.{HostSpec}
+use Rattle.host_template.specs.Standing.{Before, Standing}
+use Rattle.trace_model.specs.Legal.{Group, onto}
+use Rattle.trace_model.proofs.Making.{goes_on_back}
+use Rattle.host_state.specs.declared.running.Running.{Running}
+use Rattle.host_state.specs.Runs.{Runs}
+use Rattle.mid_core.specs.View.{IsCore}
+
+pub core_grows : {A : Type 0} (stands : A → Standing) (spec : HostSpec) (before : Before) (lower later : A) (P g : List Entry) (r new : Running) → IsCore stands spec before lower P r
+    → Group spec P g → stands later spec before (onto g P) → Runs spec (onto g P) new → IsCore stands spec before later (onto g P) new
+core_grows stands spec before lower later P g r new core may stood runs = record {
+  legal = goes_on_back spec P g core.legal may;
+  stood = stood;
+  runs = runs;
+}
+
+-- one entry more
+pub added : (J J1 J2 : List Entry) (e : Entry) → J1 ≡ J → J2 ≡ J1 ++ e ∷ [] → J2 ≡ J ++ e ∷ []
+added J J1 J2 e p q = q ∙ ap (λ (xs : List Entry). xs ++ e ∷ []) p
+
+pub back : (J J1 J2 : List Entry) (e : Entry) → J1 ≡ J → J2 ≡ J1 ++ e ∷ [] → reverse J2 ≡ e ∷ reverse J
+back J J1 J2 e p q = ap (λ (xs : List Entry). reverse xs) (added J J1 J2 e p q) ∙ reverse-append J (e ∷ [])
+
+-- two entries more
+pub added2 : (J J1 J2 J3 : List Entry) (e f : Entry) → J1 ≡ J → J2 ≡ J1 ++ e ∷ [] → J3 ≡ J2 ++ f ∷ [] → J3 ≡ J ++ e ∷ f ∷ []
+added2 J J1 J2 J3 e f p q r = r ∙ ap (λ (xs : List Entry). xs ++ f ∷ []) (added J J1 J2 e p q) ∙ append_assoc J (e ∷ []) (f ∷ [])
+
+pub back2 : (J J1 J2 J3 : List Entry) (e f : Entry) → J1 ≡ J → J2 ≡ J1 ++ e ∷ [] → J3 ≡ J2 ++ f ∷ [] → reverse J3 ≡ f ∷ e ∷ reverse J
+back2 J J1 J2 J3 e f p q r = ap (λ (xs : List Entry). reverse xs) (added2 J J1 J2 J3 e f p q r) ∙ reverse-append J (e ∷ f ∷ [])
