@@ -13,6 +13,16 @@ is_online_state Cancel = false
 is_online_state Del = false
 is_online_state _ = true
 
+abbrev pub same_state : DeviceState → DeviceState → Bool
+same_state Created Created = true
+same_state Running Running = true
+same_state Quiesce Quiesce = true
+same_state Block Block = true
+same_state Gone Gone = true
+same_state Cancel Cancel = true
+same_state Del Del = true
+same_state _ _ = false
+
 abbrev pub is_running : DeviceState → Bool
 is_running Running = true
 is_running _ = false

@@ -1,10 +1,9 @@
 ghost use Rattle.std.specs.Prelude.{◌≡◌, find, option_map};
-ghost use Rattle.mid_base.specs.Address.{same_dev};
 ghost use Rattle.fault_plan.specs.Plan.{hits, is_hit, planned};
 
 use crate::Class;
 use crate::class::{class_of, same_class};
-use mid_base::{DevAddr, Fault, PlanEntry};
+use mid_base::{DevAddr, Fault, PlanEntry, same_dev};
 
 /// The planned fault that the call with the number `nth` of this class meets at this device, as a part of the plan: the
 /// fault of the first entry of that device and class that hits the number.
@@ -29,12 +28,6 @@ fn is_hit(entry: &PlanEntry, dev: DevAddr, class: Class, nth: u64) -> bool
     ensures { result ≡ is_hit dev class nth entry.now }
 {
     same_dev(entry.dev, dev) && same_class(class_of(&entry.fault), class) && hits(entry, nth)
-}
-
-fn same_dev(a: DevAddr, b: DevAddr) -> bool
-    ensures { result ≡ same_dev a b }
-{
-    a.channel == b.channel && a.target == b.target && a.lun == b.lun
 }
 
 fn hits(entry: &PlanEntry, nth: u64) -> bool

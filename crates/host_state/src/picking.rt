@@ -35,15 +35,13 @@ impl Running {
         requires { device < length self.now.devices.rows.items }
         ensures { IsFirstUpTo self.now device first → IsFirstUpTo self.now (device + 1) result }
     {
-        if !self.devices.goes(device) {
-            return first;
-        }
         let Some(order) = self.commands.first_waiting(device) else {
             return first;
         };
         match first {
             Some(known) if known.0 <= order => first,
-            _ => Some((order, device)),
+            _ if self.devices.goes(device) => Some((order, device)),
+            _ => first,
         }
     }
 }

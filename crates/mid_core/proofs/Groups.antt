@@ -19,12 +19,13 @@ use Rattle.mid_base.specs.declared.names.DevAddr.{DevAddr}
 use Rattle.mid_base.specs.declared.names.LaneNo.{LaneNo}
 use Rattle.mid_base.specs.declared.names.Tag.{Tag}
 use Rattle.mid_base.specs.declared.states.DeviceState.{DeviceState}
+use Rattle.mid_base.specs.declared.states.DeviceState.TheVariants as device
 use Rattle.mid_base.specs.declared.steps.Step.TheVariants as step
 use Rattle.mid_base.specs.declared.steps.Why.TheVariants.{Spent, Illegal as NotLegal}
 use Rattle.mid_base.specs.Address.{has_dev}
 use Rattle.mid_base.specs.Answers.{no_connect}
 use Rattle.mid_base.specs.Past.{ticks, sent_for}
-use Rattle.device_states.specs.States.{is_closed, may_become, set_or_refuse}
+use Rattle.device_states.specs.States.{is_closed, same_state, may_become, set_or_refuse}
 use Rattle.device_states.specs.declared.tables.Illegal.{Illegal}
 use Rattle.trace_model.specs.Attempts.{attempts, answered, sends, is_open, is_answered, answer, late, owner, is_settled, is_due}
 use Rattle.trace_model.specs.Devices.{state, is_online, has_begun}
@@ -228,6 +229,19 @@ module _ (s : HostSpec) (P : List Entry) (d : DevAddr) (x : DeviceState) (calm :
 
   pub nothing_bars_a_state : (due : Bool) → barred s due P (step.SetState d x) ≡ None
   nothing_bars_a_state due = rw (calm, there, may) refl
+
+-- a State opens the step that asks for it
+pub opens_state : (s : HostSpec) (P : List Entry) (d : DevAddr) (x : DeviceState) → opens s P (step.SetState d x) (entry.State d x) ≡ true
+opens_state s P d x = rw (same d.channel, same d.target, same d.lun) (by x)
+  where
+    by : (y : DeviceState) → same_state y y ≡ true
+    by device.Created = refl
+    by device.Running = refl
+    by device.Quiesce = refl
+    by device.Block = refl
+    by device.Offline = refl
+    by device.Cancel = refl
+    by device.Del = refl
 
 -- what follows a judgement tells nothing of the lower layer, sends nothing and owns nothing
 pub follow_silent : (s : HostSpec) (c : CmdId) (n : Attempt) (a : Answer) (d : Disp) → IsSilent s (follow_of c n a d)

@@ -17,10 +17,9 @@ use Rattle.host_template.specs.Standing.{Standing, Unchanged}
 use Rattle.trace_model.specs.Steps.{opens, same_owner, IsAdded, barred}
 use Rattle.mid_core.specs.View.{CoreView}
 
--- the list begins with an opener of the step: that of SetState is of its device and its state
+-- the list begins with an opener of the step
 abbrev pub Opens : HostSpec → List Entry → Step → List Entry → Type 0
 Opens spec P s [] = ⊥
-Opens spec P (step.SetState d x) (e ∷ g) = e ≡ entry.State d x
 Opens spec P s (e ∷ g) = opens spec P s e ≡ true
 
 -- the step adds these entries to a journal: they begin with its opener, they are a group (a Send's may be followed by its

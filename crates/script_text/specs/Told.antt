@@ -1,5 +1,5 @@
 -- What a reader will say.
-use Rattle.std.specs.Prelude.{ℕ, ◌+◌, ◌-◌, nat_lt, List, ◌++◌, length, take, Option, Some, None, Result, Err}
+use Rattle.std.specs.Prelude.{ℕ, ◌+◌, ◌-◌, nat_lt, List, ◌++◌, length, take, Bool, Option, Some, None, Result, Err}
 use Rattle.script_words.specs.Pieces.{lines}
 use Rattle.script_text.specs.declared.script.Script.{Script}
 use Rattle.script_text.specs.declared.script.Bad.{Bad}
@@ -17,3 +17,7 @@ told None before said part count more =
 -- what a reader will say if this text comes yet
 unfoldable pub says : Reader → List ℕ → Result Script Bad
 says r more = told r.bad r.present.before (seen r.draft) r.present.part.items r.present.count more
+
+-- an allocation failed, so nothing more is read
+abbrev pub has_failed : Reader → Bool
+has_failed r = r.failed

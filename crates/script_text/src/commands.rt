@@ -44,7 +44,7 @@ impl Commands {
         self.lanes[lane.0 as usize]
     }
 
-    /// Puts a command behind the others. Where memory runs out, nothing changes.
+    /// Puts a command behind the others.
     pub fn push(&mut self, command: CmdSpec) -> Result<(), NoMemory>
         requires { command.lane.0 < 64 }
         ensures { OnOk result (self.new ≡ self.old ++ command ∷ []) }

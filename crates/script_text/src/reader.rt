@@ -9,7 +9,7 @@ use std::alloc::Global;
 /// Takes a script in pieces, which may be cut anywhere, and then says what all of it says.
 ///
 /// It keeps the line that isn't over yet, and what the lines before it say. Contracts see it as what the script will be for
-/// each text that may still come.
+/// each text that may still come (`says`), and by whether an allocation failed (`has_failed`).
 #[derive(Drop)]
 pub struct Reader {
     draft: Draft,
@@ -21,13 +21,13 @@ pub struct Reader {
 impl Reader {
     ghost use Rattle.std.specs.Prelude.{◌≡◌, ℕ, List, ◌∷◌, ◌++◌, [], OnOk, OnErr, IsErr, true, false, Err};
     ghost use Rattle.script_text.specs.Script.{script_of};
-    ghost use Rattle.script_text.specs.Told.{says};
+    ghost use Rattle.script_text.specs.Told.{says, has_failed};
     ghost use Rattle.script_text.specs.Reads.{Answers};
 
     /// A reader of no bytes so far.
     pub fn new(alloc: Global) -> Reader
         ensures says { (text : List ℕ) → says result text ≡ script_of text }
-        ensures failed { result.failed ≡ false }
+        ensures failed { has_failed result ≡ false }
     {
         Reader {
             draft: Draft::new(alloc),
@@ -39,10 +39,10 @@ impl Reader {
 
     /// Takes the next piece. Where an allocation fails, each later call fails too, and so does `finish`.
     pub fn feed(&mut self, piece: &[u8]) -> Result<(), NoMemory>
-        ensures ok { OnOk result ((self.old.failed ≡ false) × (self.new.failed ≡ false)) }
+        ensures ok { OnOk result ((has_failed self.old ≡ false) × (has_failed self.new ≡ false)) }
         ensures says { OnOk result ((more : List ℕ) → says self.new more ≡ says self.old (piece.now ++ more)) }
-        ensures err { OnErr result (self.new.failed ≡ true) }
-        ensures failed { self.old.failed ≡ true → IsErr result }
+        ensures err { OnErr result (has_failed self.new ≡ true) }
+        ensures failed { has_failed self.old ≡ true → IsErr result }
     {
         if self.failed {
             return Err(NoMemory);
@@ -59,7 +59,7 @@ impl Reader {
     /// Takes the next byte. Bytes behind a bad line say nothing.
     #[tactic(auto, using(crate::proofs::Telling::limit_told, crate::proofs::Telling::byte_told, crate::proofs::Telling::newline_told), unfolding(crate::specs::Told::says))]
     fn take_byte(&mut self, b: u8) -> Result<(), NoMemory>
-        ensures failed { self.new.failed ≡ self.old.failed }
+        ensures failed { has_failed self.new ≡ has_failed self.old }
         ensures says { OnOk result ((more : List ℕ) → says self.new more ≡ says self.old (b ∷ more)) }
     {
         if self.bad.is_some() {
@@ -81,7 +81,7 @@ impl Reader {
     #[tactic(auto, using(crate::proofs::Telling::end_told), unfolding(crate::specs::Told::says))]
     pub fn finish(self) -> Result<Script, ReadEnd>
         ensures read { Answers (says self []) result }
-        ensures failed { self.failed ≡ true → result ≡ Err ReadEnd.NoMemory }
+        ensures failed { has_failed self ≡ true → result ≡ Err ReadEnd.NoMemory }
     {
         if self.failed {
             return Err(ReadEnd::NoMemory);

@@ -39,6 +39,19 @@ step_name word =
     else if bytes_eq word (codes "state") then Some steps.State
     else None
 
+-- the word that names a fault of the timer, of an abort, of a reset, or of a probe
+unfoldable pub recovery_kind : List ℕ → Option PlanKind
+recovery_kind word =
+    if bytes_eq word (codes "longer") then Some plans.Longer
+    else if bytes_eq word (codes "timerdone") then Some plans.TimerDone
+    else if bytes_eq word (codes "abortfail") then Some plans.AbortFail
+    else if bytes_eq word (codes "rdev") then Some plans.Rdev
+    else if bytes_eq word (codes "rtgt") then Some plans.Rtgt
+    else if bytes_eq word (codes "rbus") then Some plans.Rbus
+    else if bytes_eq word (codes "rhost") then Some plans.Rhost
+    else if bytes_eq word (codes "silent") then Some plans.Silent
+    else None
+
 -- the word that names a planned fault
 unfoldable pub plan_kind : List ℕ → Option PlanKind
 plan_kind word =
@@ -50,15 +63,7 @@ plan_kind word =
     else if bytes_eq word (codes "nosense") then Some plans.NoSense
     else if bytes_eq word (codes "raw") then Some plans.Raw
     else if bytes_eq word (codes "status") then Some plans.Status
-    else if bytes_eq word (codes "longer") then Some plans.Longer
-    else if bytes_eq word (codes "timerdone") then Some plans.TimerDone
-    else if bytes_eq word (codes "abortfail") then Some plans.AbortFail
-    else if bytes_eq word (codes "rdev") then Some plans.Rdev
-    else if bytes_eq word (codes "rtgt") then Some plans.Rtgt
-    else if bytes_eq word (codes "rbus") then Some plans.Rbus
-    else if bytes_eq word (codes "rhost") then Some plans.Rhost
-    else if bytes_eq word (codes "silent") then Some plans.Silent
-    else None
+    else recovery_kind word
 
 -- the word that names a state of a device
 unfoldable pub state : List ℕ → Option DeviceState

@@ -1,5 +1,5 @@
 ghost use Rattle.std.specs.Prelude.{◌≡◌};
-ghost use Rattle.script_words.specs.Keywords.{plan_kind};
+ghost use Rattle.script_words.specs.Keywords.{plan_kind, recovery_kind};
 
 /// The kinds of planned faults, without what they are given.
 #[derive(Clone, Copy, PartialEq, Eq, Debug)]
@@ -51,6 +51,14 @@ pub fn plan_kind_of(word: &[u8]) -> Option<PlanKind>
     if word == b"status".as_slice() {
         return Some(PlanKind::Status);
     }
+    recovery_kind_of(word)
+}
+
+/// The kind of fault of the timer, of an abort, of a reset or of a probe that this word names.
+#[tactic(auto, unfolding(crate::specs::Keywords::recovery_kind))]
+fn recovery_kind_of(word: &[u8]) -> Option<PlanKind>
+    ensures { result ≡ recovery_kind word.now }
+{
     if word == b"longer".as_slice() {
         return Some(PlanKind::Longer);
     }

@@ -14,12 +14,12 @@ use Rattle.mid_base.specs.declared.steps.Step.TheVariants.{Submit, Send, Work, D
 use Rattle.mid_base.specs.declared.steps.Why.{Why}
 use Rattle.mid_base.specs.declared.steps.Why.TheVariants.{LaneDone, Recovery, NoSend, Spent, NoWork, NoDue, NotOpen, NotReady, NotDue, NotOwned, NotLate, NoAbort, EhRunning, NoFailed, NotQuiet, EhIdle, LadderDone, LadderOpen, FlushDone, FlushLeft, WorkDue, AnswerWaiting, ExpiryWaiting, Illegal}
 use Rattle.mid_base.specs.declared.host_spec.HostSpec.{HostSpec}
-use Rattle.mid_base.specs.Address.{has_dev}
+use Rattle.mid_base.specs.Address.{same_dev, has_dev}
 use Rattle.mid_base.specs.Past.{ticks}
 use Rattle.trace_model.specs.Names.{command, dev_of}
 use Rattle.trace_model.specs.Attempts.{sends, attempts, answered, is_open, is_answered, late, owner, is_settled, is_due}
 use Rattle.trace_model.specs.Commands.{aborts}
-use Rattle.device_states.specs.States.{may_become}
+use Rattle.device_states.specs.States.{same_state, may_become}
 use Rattle.trace_model.specs.Devices.{state, is_online, in_recovery, has_begun}
 use Rattle.trace_model.specs.Time.{is_expired}
 use Rattle.trace_model.specs.Sending.{next_of_lane, is_refused, is_stranded, pick}
@@ -54,7 +54,7 @@ opens s P EhFlush (Again c counted) = true
 opens s P EhFlush (Told c a) = is_flushed s P c.0
 opens s P End EhEnd = true
 opens s P GoOn Tick = true
-opens s P (SetState d x) (State e y) = true
+opens s P (SetState d x) (State e y) = same_dev e d && same_state y x
 opens s P step e = false
 
 -- a step adds a group; Send may add the Bounced of its Sent besides
