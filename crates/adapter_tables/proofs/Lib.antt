@@ -9,3 +9,4 @@ pub mod Numbers
 pub mod ProbeLaws
 pub mod NewLaws
 pub mod AddressLaws
+pub mod PlanParts

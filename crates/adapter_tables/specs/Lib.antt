@@ -5,4 +5,5 @@ pub mod Ties
 pub mod Answering
 pub mod Tests
 pub mod Addresses
+pub mod Plans
 pub mod TablesOf

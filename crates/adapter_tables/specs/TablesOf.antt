@@ -2,6 +2,8 @@
 use Rattle.std.specs.Prelude.{List}
 use Rattle.adapter_tables.specs.declared.counts.CountRow.{CountRow}
 use Rattle.adapter_tables.specs.declared.unit_row.UnitRow.{UnitRow}
+use Rattle.mid_base.specs.declared.faults.PlanEntry.{PlanEntry}
+use Rattle.adapter_tables.specs.declared.plan_table.PlanTable.{PlanTable}
 use Rattle.adapter_tables.specs.declared.count_table.CountTable.{CountTable}
 use Rattle.adapter_tables.specs.declared.unit_table.UnitTable.{UnitTable}
 
@@ -12,3 +14,7 @@ rows_of t = t.rows.items
 -- the units, in that order
 abbrev pub units_of : UnitTable → List UnitRow
 units_of t = t.units.items
+
+-- the lines of the plan, in their order
+abbrev pub plan_of : PlanTable → List PlanEntry
+plan_of t = t.plan.items

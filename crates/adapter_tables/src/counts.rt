@@ -1,11 +1,14 @@
 ghost use Rattle.std.specs.Prelude.{◌≡◌, ◌&&◌, is_some, map};
 ghost use Rattle.mid_base.specs.Address.{in_scope};
 ghost use Rattle.fault_plan.specs.Plan.{planned};
+ghost use Rattle.adapter_tables.specs.TablesOf.{plan_of};
 ghost use Rattle.adapter_tables.specs.Ties.{up, bump, count_in, counted_row, any_hit_in};
 
+use crate::PlanTable;
+use crate::planned::fault_at;
 use crate::scopes::covers;
-use fault_plan::{Class, take};
-use mid_base::{DevAddr, Fault, PlanEntry, Scope};
+use fault_plan::Class;
+use mid_base::{DevAddr, Scope};
 
 /// How many calls of each class were made on a device. Calls of `queue` are one count for three classes.
 #[derive(Clone, Copy, PartialEq, Eq, Debug)]
@@ -112,22 +115,15 @@ pub(crate) fn count(rows: &mut Vec<CountRow>, scope: Scope, class: Class)
     }
 }
 
-/// The planned fault that the call with this number meets, if any.
-pub fn fault_at(plan: &[PlanEntry], dev: DevAddr, class: Class, number: u64) -> Option<Fault>
-    ensures { result ≡ planned plan.now dev class number }
+fn is_hit(plan: &PlanTable, r: &CountRow, scope: Scope, class: Class) -> bool
+    ensures { result ≡ in_scope scope r.now.dev && is_some (planned (plan_of plan.now) r.now.dev class (count_in r.now.counts class)) }
 {
-    take(plan, dev, class, number).copied()
-}
-
-fn is_hit(plan: &[PlanEntry], r: &CountRow, scope: Scope, class: Class) -> bool
-    ensures { result ≡ in_scope scope r.now.dev && is_some (planned plan.now r.now.dev class (count_in r.now.counts class)) }
-{
-    covers(scope, r.dev) && take(plan, r.dev, class, of_class(&r.counts, class)).is_some()
+    covers(scope, r.dev) && fault_at(plan, r.dev, class, of_class(&r.counts, class)).is_some()
 }
 
 // Whether a reset meets a fault of some device in its scope.
-pub(crate) fn is_any_hit(plan: &[PlanEntry], rows: &[CountRow], scope: Scope, class: Class) -> bool
-    ensures { result ≡ any_hit_in plan.now rows.now scope class }
+pub(crate) fn is_any_hit(plan: &PlanTable, rows: &[CountRow], scope: Scope, class: Class) -> bool
+    ensures { result ≡ any_hit_in (plan_of plan.now) rows.now scope class }
 {
     rows.iter().any(|r| is_hit(plan, r, scope, class))
 }

@@ -1,12 +1,13 @@
 ghost use Rattle.std.specs.Prelude.{◌≡◌, ◌<◌, ◌^◌};
 ghost use Rattle.adapter_tables.specs.Answering.{busy_by, held_as, say_by};
+ghost use Rattle.adapter_tables.specs.TablesOf.{plan_of};
 
-use crate::Held;
-use crate::counts::fault_at;
 use crate::held::due_after;
+use crate::planned::fault_at;
+use crate::{Held, PlanTable};
 use fault_plan::Class;
 use host_template::{Queued, TimerSay};
-use mid_base::{Attempt, CdbBytes, DevAddr, Fault, PlanEntry};
+use mid_base::{Attempt, CdbBytes, DevAddr, Fault};
 
 /// The busy answer that a planned fault makes: of the host, or of the device (`scsi_mid_low_api.rst`, `queuecommand`).
 pub fn busy_answer(fault: Fault) -> Queued
@@ -34,7 +35,7 @@ pub fn timer_answer(fault: Option<Fault>) -> TimerSay
 /// it the plan says when the attempt is due and which fault makes its answer. With no such faults it is due at the next
 /// tick, and its unit makes the answer.
 pub fn sent_attempt(
-    plan: &[PlanEntry],
+    plan: &PlanTable,
     n: Attempt,
     dev: DevAddr,
     cdb: &CdbBytes,
@@ -43,7 +44,7 @@ pub fn sent_attempt(
     number: u64,
 ) -> Held
     requires { now < 2 ^ 60 }
-    ensures { result ≡ held_as plan.now n dev cdb.now fill now number }
+    ensures { result ≡ held_as (plan_of plan.now) n dev cdb.now fill now number }
 {
     let due = due_after(now, fault_at(plan, dev, Class::Time, number));
     let fault = fault_at(plan, dev, Class::Answer, number);

@@ -3,8 +3,8 @@ ghost use Rattle.std.specs.List.{list_all};
 ghost use Rattle.mid_base.specs.Limits.{is_lun};
 
 use crate::{
-    CountTable, Held, UnitTable, answer_held, busy_answer, fault_at, first_due, hold, is_any_due,
-    let_go, next_number, probe_unit, reset, sent_attempt, set_due, timer_answer,
+    CountTable, Held, PlanTable, UnitTable, answer_held, busy_answer, fault_at, first_due, hold,
+    is_any_due, let_go, next_number, probe_unit, reset, sent_attempt, set_due, timer_answer,
 };
 use fault_plan::Class;
 use host_template::{EhSay, Queued, TimerSay};
@@ -225,13 +225,52 @@ fn planned(dev: DevAddr, fault: Fault, first: u32) -> PlanEntry {
     }
 }
 
+fn plan_of(alloc: Global, lines: &[PlanEntry]) -> Option<PlanTable> {
+    PlanTable::new(alloc, &LUNS, lines).ok()
+}
+
 #[test]
 fn a_call_meets_the_fault_of_its_number(rt: HostRuntime) {
-    let plan = [planned(SECOND, Fault::Busy, 2)];
+    let Some(plan) = plan_of(rt.alloc(), &[planned(SECOND, Fault::Busy, 2)]) else {
+        assert!(rt; false, "memory");
+        return;
+    };
     assert_eq!(rt; fault_at(&plan, SECOND, Class::Queue, 1), None);
     assert_eq!(rt; fault_at(&plan, SECOND, Class::Queue, 2), Some(Fault::Busy));
     assert_eq!(rt; fault_at(&plan, SECOND, Class::Timer, 2), None);
     assert_eq!(rt; fault_at(&plan, FIRST, Class::Queue, 2), None);
+}
+
+#[test]
+fn of_lines_of_many_devices_and_classes_the_first_that_hits_counts(rt: HostRuntime) {
+    let lines = [
+        planned(THIRD, Fault::Latency(2), 1),
+        planned(SECOND, Fault::Latency(3), 2),
+        planned(SECOND, Fault::AbortFail, 1),
+        planned(SECOND, Fault::Busy, 1),
+        planned(SECOND, Fault::Never, 1),
+        planned(NOWHERE, Fault::Busy, 1),
+        planned(SECOND, Fault::Check(3, 0x11, 0), 1),
+        planned(SECOND, Fault::Latency(4), 1),
+        planned(SECOND, Fault::HostBusy, 1),
+    ];
+    let wanted = [
+        (SECOND, Class::Queue, Some(Fault::Busy)),
+        (SECOND, Class::Time, Some(Fault::Never)),
+        (SECOND, Class::Answer, Some(Fault::Check(3, 0x11, 0))),
+        (SECOND, Class::Abort, Some(Fault::AbortFail)),
+        (SECOND, Class::Probe, None),
+        (THIRD, Class::Time, Some(Fault::Latency(2))),
+        (FIRST, Class::Time, None),
+        (NOWHERE, Class::Queue, Some(Fault::Busy)),
+    ];
+    let Some(plan) = plan_of(rt.alloc(), &lines) else {
+        assert!(rt; false, "memory");
+        return;
+    };
+    for (dev, class, fault) in wanted {
+        assert_eq!(rt; fault_at(&plan, dev, class, 1), fault, "{class:?}");
+    }
 }
 
 #[test]
@@ -243,14 +282,14 @@ fn faults_make_the_answers_of_queue_and_of_timeouts(rt: HostRuntime) {
     assert_eq!(rt; timer_answer(Some(Fault::TimerDone)), TimerSay::Done);
 }
 
-fn sent(plan: &[PlanEntry], number: u64) -> Held {
+fn sent(plan: &PlanTable, number: u64) -> Held {
     let cdb = CdbBytes::from_slice(&TEST_UNIT_READY);
     sent_attempt(plan, Attempt(6), SECOND, &cdb, 3, 10, number)
 }
 
 #[test]
 fn the_plan_says_when_an_attempt_is_due_and_by_which_fault(rt: HostRuntime) {
-    let plan = [
+    let lines = [
         planned(SECOND, Fault::Latency(5), 1),
         planned(SECOND, Fault::Never, 2),
         planned(SECOND, Fault::Check(3, 0x11, 0), 3),
@@ -262,6 +301,10 @@ fn the_plan_says_when_an_attempt_is_due_and_by_which_fault(rt: HostRuntime) {
         (3, Some(11), Some(Fault::Check(3, 0x11, 0))),
         (4, Some(11), None),
     ];
+    let Some(plan) = plan_of(rt.alloc(), &lines) else {
+        assert!(rt; false, "memory");
+        return;
+    };
     for (number, due, fault) in wanted {
         let h = sent(&plan, number);
         assert_eq!(rt; h.due, due, "{number}");
@@ -448,7 +491,7 @@ fn were_reset(alloc: Global, units: &mut UnitTable) -> [bool; 4] {
     told
 }
 
-fn reset_by(bench: &mut Bench, plan: &[PlanEntry], scope: Scope, class: Class) -> EhSay {
+fn reset_by(bench: &mut Bench, plan: &PlanTable, scope: Scope, class: Class) -> EhSay {
     reset(
         plan,
         &mut bench.held,
@@ -462,7 +505,8 @@ fn reset_by(bench: &mut Bench, plan: &[PlanEntry], scope: Scope, class: Class) -
 // What a reset says where no fault is planned, the attempts that are answered after it, and which units it has reset.
 fn after_reset(alloc: Global, scope: Scope, class: Class) -> Option<(EhSay, [u64; 4], [bool; 4])> {
     let mut bench = made(alloc)?;
-    let said = reset_by(&mut bench, &[], scope, class);
+    let plan = plan_of(alloc, &[])?;
+    let said = reset_by(&mut bench, &plan, scope, class);
     let left = answered(&mut bench.held, 1);
     let told = were_reset(alloc, &mut bench.units);
     Some((said, left, told))
@@ -525,9 +569,9 @@ fn a_reset_is_of_its_scope_alone(rt: HostRuntime) {
 
 #[test]
 fn a_reset_that_meets_a_fault_is_counted_and_does_nothing(rt: HostRuntime) {
-    let plan = [planned(SECOND, Fault::Rtgt, 1)];
+    let lines = [planned(SECOND, Fault::Rtgt, 1)];
     let scope = Scope::Target(0, 0);
-    let Some(mut bench) = made(rt.alloc()) else {
+    let (Some(mut bench), Some(plan)) = (made(rt.alloc()), plan_of(rt.alloc(), &lines)) else {
         assert!(rt; false, "memory");
         return;
     };

@@ -23,7 +23,7 @@ fn settle_time(held: &mut Slab<Held>, n: Attempt, now: u64, say: TimerSay)
 impl HostTemplate for DebugAdapter {
     ghost use Rattle.std.specs.Prelude.{◌≡◌};
     ghost use Rattle.adapter_tables.specs.Ties.{any_due};
-    ghost use Rattle.adapter_tables.specs.TablesOf.{rows_of, units_of};
+    ghost use Rattle.adapter_tables.specs.TablesOf.{plan_of, rows_of, units_of};
     ghost use Rattle.adapter_tables.specs.Units.{data_in as data_of, probe_gives};
     ghost use Rattle.debug_adapter.specs.Means.{means_of};
     ghost use Rattle.debug_adapter.specs.Adapter.{AdapterStands};
@@ -150,9 +150,9 @@ impl HostTemplate for DebugAdapter {
         probe_unit(&mut self.units, dev, cdb, &mut self.buffer, into)
     }
 
-    ghost silent = { λ x. silent_law x.plan.items x.held (rows_of x.rows) (units_of x.units) };
+    ghost silent = { λ x. silent_law (plan_of x.plan) x.held (rows_of x.rows) (units_of x.units) };
 
-    ghost quiet_tick = { λ x. tick_law x.plan.items x.held (rows_of x.rows) (units_of x.units) };
+    ghost quiet_tick = { λ x. tick_law (plan_of x.plan) x.held (rows_of x.rows) (units_of x.units) };
 
-    ghost scans = { λ x. scan_law x.plan.items x.held (rows_of x.rows) (units_of x.units) };
+    ghost scans = { λ x. scan_law (plan_of x.plan) x.held (rows_of x.rows) (units_of x.units) };
 }

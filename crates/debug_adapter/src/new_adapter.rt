@@ -1,20 +1,12 @@
-ghost use Rattle.std.specs.Prelude.{◌≡◌, IfOk, []};
+ghost use Rattle.std.specs.Prelude.{IfOk, []};
 ghost use Rattle.mid_base.specs.Limits.{KeepsLimits};
 ghost use Rattle.debug_adapter.specs.Adapter.{AdapterStands};
 
 use crate::DebugAdapter;
-use adapter_tables::{CountTable, UnitTable};
-use mid_base::{HostSpec, NoMemory, PlanEntry};
+use adapter_tables::{CountTable, PlanTable, UnitTable};
+use mid_base::{HostSpec, NoMemory};
 use slab::Slab;
 use std::alloc::Global;
-
-// A copy of the plan.
-fn plan_of(alloc: Global, plan: &[PlanEntry]) -> Result<Vec<PlanEntry>, NoMemory>
-    ensures { IfOk result (λ v. v.items ≡ plan.now) }
-{
-    let copy = plan.iter().copied().collect(alloc);
-    copy.map_err(|_| NoMemory)
-}
 
 impl DebugAdapter {
     /// The adapter of a host whose spec keeps its limits, before any call: it holds no attempt, its units are new, and it stands
@@ -23,7 +15,8 @@ impl DebugAdapter {
         requires { KeepsLimits spec.now }
         ensures { IfOk result (λ x. AdapterStands x spec.now [] []) }
     {
-        let plan = plan_of(alloc, spec.plan.as_slice())?;
+        let lines = spec.plan.as_slice();
+        let plan = PlanTable::new(alloc, spec.luns.as_slice(), lines)?;
         let rows = CountTable::new(alloc, spec.luns.as_slice())?;
         let units = UnitTable::new(alloc, spec.luns.as_slice())?;
         let buffer = vec![in alloc; 0u8; 131_072].map_err(|_| NoMemory)?;

@@ -29,6 +29,7 @@ pub enum Class {
     Probe,
 }
 
+/// The class whose calls a fault hits.
 pub fn class_of(fault: &Fault) -> Class
     ensures { result ≡ class_of fault.now }
 {
@@ -47,6 +48,7 @@ pub fn class_of(fault: &Fault) -> Class
     }
 }
 
+/// Whether two classes are the same.
 pub fn same_class(a: Class, b: Class) -> bool
     ensures { result ≡ same_class a b }
 {

@@ -10,6 +10,6 @@ mod plan;
 #[cfg(test)]
 mod tests;
 
-pub use class::Class;
+pub use class::{Class, class_of, same_class};
 pub use laws::hits_are_the_numbers_of_the_entry;
 pub use plan::take;

@@ -1,4 +1,4 @@
-use crate::{Class, take};
+use crate::{Class, class_of, same_class, take};
 use mid_base::{DevAddr, Fault, HostByte, PlanEntry, SenseBytes};
 
 const HERE: DevAddr = DevAddr {
@@ -139,6 +139,7 @@ fn faults() -> [(Fault, Class); 16] {
 #[test]
 fn each_fault_is_met_in_its_class_alone(rt: HostRuntime) {
     for (fault, class) in &faults() {
+        assert!(rt; same_class(class_of(fault), *class), "{fault:?}");
         let plan = [planned(HERE, *fault, 1, 1, 1)];
         for asked in CLASSES {
             let met = take(&plan, HERE, asked, 1).copied();

@@ -9,7 +9,7 @@ use Rattle.mid_base.specs.Past.{ticks}
 use Rattle.adapter_tables.specs.declared.held.Held.{Held}
 use Rattle.adapter_tables.specs.Held.{held, is_due, is_due_held}
 use Rattle.adapter_tables.specs.Ties.{any_due}
-use Rattle.adapter_tables.specs.TablesOf.{rows_of, units_of}
+use Rattle.adapter_tables.specs.TablesOf.{plan_of, rows_of, units_of}
 use Rattle.debug_adapter.specs.declared.adapter.DebugAdapter.{DebugAdapter}
 use Rattle.debug_adapter.specs.Adapter.{AdapterStands}
 use Rattle.debug_adapter.specs.Laws.{tick_law}
@@ -32,4 +32,4 @@ due_is x s P stands = by (any_due x.held (ticks P)) refl
         let some = some_passes (λ h. is_due (ticks P) h.due) x.held.slots e in
         let held_so : held s [] P some.1.n.0 ≡ Some some.1 = (stands.2 some.1.n.0 some.1).1 (refl, (some.0, some.2)) in
         (some.1.n.0, ap (is_due_held (ticks P)) held_so ∙ some.3)
-    by false e = (tick_law x.plan.items x.held (rows_of x.rows) (units_of x.units) s [] P e stands).5.0
+    by false e = (tick_law (plan_of x.plan) x.held (rows_of x.rows) (units_of x.units) s [] P e stands).5.0
