@@ -1,4 +1,4 @@
-ghost use Rattle.std.specs.Prelude.{◌≡◌, ◌<◌, [], ◌∷◌, ◌++◌, length, IfOk, MatchOption};
+ghost use Rattle.std.specs.Prelude.{◌≡◌, ◌<◌, [], ◌∷◌, ◌++◌, length, slice_get, IfOk, MatchOption};
 
 use mid_base::{Attempt, CmdId, NoMemory};
 use std::alloc::Global;
@@ -44,6 +44,13 @@ impl AbortWork {
         ensures most { self.new.most ≡ self.old.most }
     {
         self.waiting.push_back_reserved((c, n));
+    }
+
+    /// The abort that was scheduled first, which stays. None comes exactly where none waits.
+    pub fn first(&self) -> Option<(CmdId, Attempt)>
+        ensures { result ≡ slice_get self.now.waiting 0 }
+    {
+        self.waiting.front().copied()
     }
 
     /// Takes out the abort that was scheduled first. None comes exactly where none waits.

@@ -9,7 +9,7 @@ use Rattle.mid_base.specs.Address.{same_dev, in_scope, has_dev}
 use Rattle.mid_base.specs.Limits.{differ_in_address}
 use Rattle.fault_plan.specs.declared.class.Class.{Class}
 use Rattle.adapter_tables.specs.declared.counts.CountRow.{CountRow}
-use Rattle.adapter_tables.specs.declared.unit_row.UnitRow.{UnitRow}
+use Rattle.adapter_tables.specs.declared.device_rows.UnitRow.{UnitRow}
 use Rattle.adapter_tables.specs.Addresses.{lun_devs, row_devs, unit_devs, has_address, are_apart, bumped_row, CountedAt}
 use Rattle.adapter_tables.specs.Ties.{bump, count_in, count_of, counted_row, has_unit, new_row, NewUnits, WereReset}
 use Rattle.adapter_tables.proofs.RowLaws.{itself, differ, other_dev}

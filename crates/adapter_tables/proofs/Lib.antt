@@ -10,3 +10,4 @@ pub mod ProbeLaws
 pub mod NewLaws
 pub mod AddressLaws
 pub mod PlanParts
+pub mod DataOut

@@ -9,12 +9,12 @@ use Rattle.mid_base.specs.declared.host_spec.CmdSpec.{CmdSpec}
 use Rattle.mid_base.specs.declared.host_spec.HostSpec.{HostSpec}
 use Rattle.mid_base.specs.declared.host_spec.LunSpec.{LunSpec}
 use Rattle.mid_base.specs.Address.{has_dev}
-use Rattle.mid_base.specs.Limits.{KeepsLimits, is_between, is_command, is_planned, is_fault, differ_in_address}
+use Rattle.mid_base.specs.Limits.{KeepsLimits, is_between, is_command, has_block, is_planned, is_fault, differ_in_address}
 use Rattle.fault_plan.specs.declared.class.Class.{Class}
 use Rattle.fault_plan.specs.declared.class.Class.TheVariants.{Queue, Probe as Probing}
 use Rattle.std.proofs.lemmas.List.{take_more}
 use Rattle.debug_lun.specs.Units.{unit_for, unit_of}
-use Rattle.adapter_tables.specs.declared.unit_row.UnitRow.{UnitRow}
+use Rattle.adapter_tables.specs.declared.device_rows.UnitRow.{UnitRow}
 use Rattle.adapter_tables.specs.Counted.{counted_before}
 use Rattle.adapter_tables.specs.Units.{first_unit, target_luns}
 use Rattle.adapter_tables.specs.Ties.{cap, count_in, no_counts, new_row, RowsAre, UnitIs, UnitsAre, NewUnits, Differ, PlanSmall, Within}
@@ -82,7 +82,8 @@ addresses_differ (l ∷ ls) e =
 
 device_known : (luns : List LunSpec) (k : CmdSpec) → is_command luns k ≡ true → has_dev luns k.dev ≡ true
 device_known luns k e =
-    let a = and_true (has_dev luns k.dev && is_between 1 4294967295 k.id.0 && nat_le k.lane.0 63 && is_between 1 10000 k.timeout) (nat_le k.allowed 20) e in
+    let z = and_true (has_dev luns k.dev && is_between 1 4294967295 k.id.0 && nat_le k.lane.0 63 && is_between 1 10000 k.timeout && nat_le k.allowed 20) (has_block k) e in
+    let a = and_true (has_dev luns k.dev && is_between 1 4294967295 k.id.0 && nat_le k.lane.0 63 && is_between 1 10000 k.timeout) (nat_le k.allowed 20) z.0 in
     let b = and_true (has_dev luns k.dev && is_between 1 4294967295 k.id.0 && nat_le k.lane.0 63) (is_between 1 10000 k.timeout) a.0 in
     let c = and_true (has_dev luns k.dev && is_between 1 4294967295 k.id.0) (nat_le k.lane.0 63) b.0 in
     (and_true (has_dev luns k.dev) (is_between 1 4294967295 k.id.0) c.0).0

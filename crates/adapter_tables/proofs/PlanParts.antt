@@ -1,16 +1,17 @@
 -- A plan that is parted by devices and classes says the same of each call.
 use Rattle.std.proofs.Common.{zero, suc, ◌≡◌, ℕ, ◌<◌, ◌+◌, ◌&&◌, Bool, true, false, if◌then◌else◌, List, [], ◌∷◌, ◌++◌, take, length, get_or, map, Option, Some, slice_get, refl, sym, ap, ◌∙◌, subst, arith}
-use Rattle.std.specs.Prelude.{find, filter, option_map}
+use Rattle.std.specs.Prelude.{not, find, filter, option_map}
 use Rattle.std.proofs.lemmas.List.{take_more}
 use Rattle.mid_base.specs.declared.names.DevAddr.{DevAddr}
 use Rattle.mid_base.specs.declared.faults.PlanEntry.{PlanEntry}
 use Rattle.mid_base.specs.declared.host_spec.LunSpec.{LunSpec}
 use Rattle.mid_base.specs.Address.{same_dev}
 use Rattle.fault_plan.specs.declared.class.Class.{Class}
-use Rattle.fault_plan.specs.Plan.{hits, is_hit, planned}
-use Rattle.adapter_tables.specs.declared.device_plan.DevicePlan.{DevicePlan}
+use Rattle.fault_plan.specs.declared.class.Class.TheVariants.{Queue, Time, Answer}
+use Rattle.fault_plan.specs.Plan.{class_of, same_class, hits, is_hit, planned}
+use Rattle.adapter_tables.specs.declared.device_rows.DevicePlan.{DevicePlan}
 use Rattle.adapter_tables.specs.Addresses.{lun_devs}
-use Rattle.adapter_tables.specs.Plans.{Parts, is_for, is_in, parts_for, shown, HavePlans}
+use Rattle.adapter_tables.specs.Plans.{Parts, is_for, is_in, is_queued, is_rest, parts_for, shown, HavePlans}
 
 -- what isn't kept isn't looked for
 find_kept : (test keep : PlanEntry → Bool) → ((x : PlanEntry) → keep x ≡ false → test x ≡ false) → (xs : List PlanEntry) → find test (filter keep xs) ≡ find test xs
@@ -24,15 +25,44 @@ find_kept test keep h (x ∷ xs) = by (keep x) refl (find_kept test keep h xs)
 of_device : (plan : List PlanEntry) (d : DevAddr) (class : Class) (n : ℕ) → find (is_hit d class n) (filter (is_for d) plan) ≡ find (is_hit d class n) plan
 of_device plan d class n = find_kept (is_hit d class n) (is_for d) (λ x off. rw off refl) plan
 
+neither : (a b : Bool) → a && false && b ≡ false
+neither true b = refl
+neither false b = refl
+
 in_class : (plan : List PlanEntry) (d : DevAddr) (class : Class) (n : ℕ) → find (is_hit d class n) (filter (is_in class) plan) ≡ find (is_hit d class n) plan
 in_class plan d class n = find_kept (is_hit d class n) (is_in class) (λ x off. rw off (neither (same_dev x.dev d) (hits x n))) plan
-  where
-    neither : (a b : Bool) → a && false && b ≡ false
-    neither true b = refl
-    neither false b = refl
 
-pub all_lines : (plan lines : List PlanEntry) (d : DevAddr) (class : Class) (n : ℕ) → lines ≡ filter (is_for d) plan → planned lines d class n ≡ planned plan d class n
-all_lines plan lines d class n is = ap (λ (ls : List PlanEntry). planned ls d class n) is ∙ ap (option_map (λ (e : PlanEntry). e.fault)) (of_device plan d class n)
+not_queue : (b : Class) → is_queued b ≡ false → same_class Queue b ≡ false
+not_queue Queue e = absurd (cc e)
+not_queue b e = refl
+
+not_time : (b : Class) → is_queued b ≡ false → same_class Time b ≡ false
+not_time Time e = absurd (cc e)
+not_time b e = refl
+
+not_answer : (b : Class) → is_queued b ≡ false → same_class Answer b ≡ false
+not_answer Answer e = absurd (cc e)
+not_answer b e = refl
+
+pub not_queued : (class : Class) → (class ≡ Queue → ⊥) → (class ≡ Time → ⊥) → (class ≡ Answer → ⊥) → is_queued class ≡ false
+not_queued Queue q t a = absurd (q refl)
+not_queued Time q t a = absurd (t refl)
+not_queued Answer q t a = absurd (a refl)
+not_queued class q t a = refl
+
+apart : (a b : Class) → not (is_queued a) ≡ false → is_queued b ≡ false → same_class a b ≡ false
+apart Queue b off rest = not_queue b rest
+apart Time b off rest = not_time b rest
+apart Answer b off rest = not_answer b rest
+apart a b off rest = absurd (cc off)
+
+in_rest : (plan : List PlanEntry) (d : DevAddr) (class : Class) (n : ℕ) → is_queued class ≡ false → find (is_hit d class n) (filter is_rest plan) ≡ find (is_hit d class n) plan
+in_rest plan d class n rest = find_kept (is_hit d class n) is_rest (λ x off. rw (apart (class_of x.fault) class off rest) (neither (same_dev x.dev d) (hits x n))) plan
+
+pub rest_lines : (plan lines : List PlanEntry) (d : DevAddr) (class : Class) (n : ℕ) → is_queued class ≡ false → lines ≡ filter is_rest (filter (is_for d) plan) → planned lines d class n ≡ planned plan d class n
+rest_lines plan lines d class n rest is =
+    ap (λ (ls : List PlanEntry). planned ls d class n) is
+    ∙ ap (option_map (λ (e : PlanEntry). e.fault)) (in_rest (filter (is_for d) plan) d class n rest ∙ of_device plan d class n)
 
 pub class_lines : (plan lines : List PlanEntry) (d : DevAddr) (class : Class) (n : ℕ) → lines ≡ filter (is_in class) (filter (is_for d) plan) → planned lines d class n ≡ planned plan d class n
 class_lines plan lines d class n is =

@@ -9,15 +9,17 @@ use Rattle.mid_base.specs.declared.answers.Answer.{Answer}
 use Rattle.mid_base.specs.declared.answers.ProbeSay.TheVariants.{Answered}
 use Rattle.cdb_codec.specs.declared.cdb.Cdb.{Cdb}
 use Rattle.cdb_codec.specs.declared.cdb.Cdb.TheVariants.{TestUnitReady, RequestSense, Inquiry, StartStop, ReportLuns}
-use Rattle.host_template.specs.Probes.{request_sense, inquiry, report_luns, probe_cdb, code_of, IsProbe, allocation, taken}
+use Rattle.mid_base.specs.Codes.{request_sense, inquiry, report_luns}
+use Rattle.host_template.specs.Probes.{probe_cdb, code_of, IsProbe, allocation, taken}
 use Rattle.debug_lun.specs.declared.sense_code.Sense.{Sense}
 use Rattle.debug_lun.specs.Units.{LogicalUnit, Reply, reply_of}
-use Rattle.debug_lun.specs.Commands.{read_command, passes_attention, needs_start, is_write, moves_blocks, first_block, block_count}
+use Rattle.debug_lun.specs.Commands.{data_needed, needed_for, read_command, passes_attention, needs_start, is_write, moves_blocks, first_block, block_count}
 use Rattle.debug_lun.specs.Pages.{is_unknown_page, sense_bytes, inquiry as inquiry_data, listed_units}
 use Rattle.lun_addr.specs.Grammar.{lun_list}
 use Rattle.debug_lun.specs.Serving.{sense_due, Served, run, run_read, serve, tried, performed, placed, refusals, first_refusal, is_accepted_write}
 use Rattle.debug_lun.proofs.Spelled.{read_spelled}
 use Rattle.debug_lun.proofs.Told.{serve_tells}
+use Rattle.debug_lun.proofs.Needed.{serve_looks}
 use Rattle.adapter_tables.specs.Units.{data_out, probed}
 use Rattle.adapter_tables.specs.Answering.{FetchesSense}
 
@@ -125,6 +127,27 @@ inquiry_keeps luns u = ap (λ (x : Served). x.unit) (served_calm u (probe_cdb 18
 pub report_keeps : (luns : List ℕ) (u : LogicalUnit) → (probed luns u report_luns).unit ≡ u
 report_keeps luns u = ap (λ (x : Served). x.unit) (served_calm u (probe_cdb 160) luns (data_out 0) (ReportLuns 0 2056 0) luns_read (calm u (ReportLuns 0 2056 0) refl refl refl refl refl refl))
 
+-- a probe looks at no data-out
+needs_none : (block : List ℕ) (c : Cdb) → read_command block ≡ Ok c → needed_for (Ok c) ≡ 0 → data_needed block ≡ 0
+unfolding data_needed
+needs_none block c e none = ap needed_for e ∙ none
+
+none_needed_at : (code : ℕ) → code ≡ slice_index (probe_cdb code) 0 → data_needed (probe_cdb code) ≡ 0
+none_needed_at = by_code (λ code. data_needed (probe_cdb code) ≡ 0)
+    (needs_none (probe_cdb 0) (TestUnitReady 0) ready_read refl)
+    (needs_none (probe_cdb 3) (RequestSense false 252 0) sense_read refl)
+    (needs_none (probe_cdb 18) (Inquiry false 0 36 0) inquiry_read refl)
+    (needs_none (probe_cdb 27) (StartStop false 1 0) start_read refl)
+    (needs_none (probe_cdb 160) (ReportLuns 0 2056 0) luns_read refl)
+
+none_needed : (cdb : CdbBytes) → IsProbe cdb → data_needed (cdb_list cdb) ≡ 0
+none_needed cdb known = ap data_needed known ∙ none_needed_at (code_of cdb) (ap (λ (block : List ℕ). slice_index block 0) known)
+
+pub probe_looks_at_none : (u : LogicalUnit) (cdb : CdbBytes) (luns out other : List ℕ) → IsProbe cdb → serve u (cdb_list cdb) luns out ≡ serve u (cdb_list cdb) luns other
+probe_looks_at_none u cdb luns out other known =
+    let none : data_needed (cdb_list cdb) ≡ 0 = none_needed cdb known in
+    serve_looks u (cdb_list cdb) luns out other (rw none refl)
+
 -- what is moved is what comes in
 pub probe_moved : (u : LogicalUnit) (luns : List ℕ) (cdb : CdbBytes) → IsProbe cdb → (serve u (cdb_list cdb) luns (data_out 0)).reply.moved ≡ length (serve u (cdb_list cdb) luns (data_out 0)).data_in
 probe_moved u luns cdb known = (serve_tells u (cdb_list cdb) luns (data_out 0)).moved_is (probe_gives_few u luns (data_out 0) cdb known).no_write
@@ -151,10 +174,10 @@ moved_few luns u cdb a known e =
     let most : allocation (code_of cdb) ≤ 2056 = allocation_small (code_of cdb) (ap (λ (block : List ℕ). slice_index block 0) known) in
     omega (arith, moved_fits luns u cdb a known e, most)
 
-pub data_taken : (luns : List ℕ) (u : LogicalUnit) (cdb : CdbBytes) (a : Answer) (buffer into : List ℕ) → IsProbe cdb → reply_of a ≡ (serve u (cdb_list cdb) luns (data_out 0)).reply
-    → buffer ≡ placed (serve u (cdb_list cdb) luns (data_out 0)).data_in (data_out 0) → take a.moved into ≡ take a.moved buffer
+pub data_taken : (luns : List ℕ) (u : LogicalUnit) (cdb : CdbBytes) (a : Answer) (buffer rest into : List ℕ) → IsProbe cdb → reply_of a ≡ (serve u (cdb_list cdb) luns (data_out 0)).reply
+    → buffer ≡ placed (serve u (cdb_list cdb) luns (data_out 0)).data_in rest → take a.moved into ≡ take a.moved buffer
     → taken (code_of cdb) (Answered a) into ≡ (probed luns u (code_of cdb)).data_in
-data_taken luns u cdb a buffer into known e placing front =
+data_taken luns u cdb a buffer rest into known e placing front =
     let least : min a.moved (allocation (code_of cdb)) ≡ a.moved = omega (arith, moved_fits luns u cdb a known e) in
     let size : length (serve u (cdb_list cdb) luns (data_out 0)).data_in ≡ a.moved = sym (ap (λ (r : Reply). r.moved) e ∙ probe_moved u luns cdb known) in
     ap (λ (k : ℕ). take k into) least

@@ -8,7 +8,7 @@ use Rattle.std.specs.Prelude.{Result, Ok, Err, IfOk, OnOk}
 use Rattle.mid_base.specs.declared.answers.Answer.{Answer}
 use Rattle.mid_base.specs.declared.answers.NoMemory.{NoMemory}
 use Rattle.debug_lun.specs.Units.{LogicalUnit, unit_of, after_reset, reply_of}
-use Rattle.adapter_tables.specs.declared.unit_row.UnitRow.{UnitRow}
+use Rattle.adapter_tables.specs.declared.device_rows.UnitRow.{UnitRow}
 use Rattle.adapter_tables.specs.Units.{target_luns}
 use Rattle.adapter_tables.specs.Ties.{UnitsAre, Differ, has_unit, Service, WasServed, WasKept, WereKept, WereReset}
 use Rattle.adapter_tables.proofs.RowLaws.{itself, other_dev}

@@ -6,7 +6,7 @@ use Rattle.mid_base.specs.declared.host_spec.LunSpec.{LunSpec}
 use Rattle.mid_base.specs.Address.{same_dev}
 use Rattle.fault_plan.specs.declared.class.Class.{Class}
 use Rattle.adapter_tables.specs.declared.counts.CountRow.{CountRow}
-use Rattle.adapter_tables.specs.declared.unit_row.UnitRow.{UnitRow}
+use Rattle.adapter_tables.specs.declared.device_rows.UnitRow.{UnitRow}
 use Rattle.adapter_tables.specs.Ties.{bump, count_in}
 
 abbrev pub lun_devs : List LunSpec → List DevAddr

@@ -20,7 +20,7 @@ use Rattle.fault_plan.specs.declared.class.Class.TheVariants.{Time, Answer}
 use Rattle.fault_plan.specs.Plan.{planned}
 use Rattle.adapter_tables.specs.declared.held.Held.{Held}
 use Rattle.adapter_tables.specs.declared.counts.CountRow.{CountRow}
-use Rattle.adapter_tables.specs.declared.unit_row.UnitRow.{UnitRow}
+use Rattle.adapter_tables.specs.declared.device_rows.UnitRow.{UnitRow}
 use Rattle.adapter_tables.specs.Held.{due_tick}
 use Rattle.adapter_tables.specs.Units.{status_reply, outcome, served_pair, probed, is_good_reply}
 use Rattle.mid_base.specs.Codes.{did_ok, good}

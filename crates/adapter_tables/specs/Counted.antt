@@ -10,7 +10,7 @@ use Rattle.mid_base.specs.declared.entries.Entry.{Entry}
 use Rattle.mid_base.specs.declared.entries.Entry.TheVariants.{Sent, Due, Longer, DoneSaid, Aborted, Act, Probe}
 use Rattle.mid_base.specs.Past.{sent_for, find_command}
 use Rattle.mid_base.specs.Address.{same_dev, in_scope}
-use Rattle.mid_base.specs.Callbacks.{has_level}
+use Rattle.mid_base.specs.Levels.{has_level}
 use Rattle.host_template.specs.Standing.{Before, earlier}
 use Rattle.fault_plan.specs.declared.class.Class.{Class}
 use Rattle.fault_plan.specs.declared.class.Class.TheVariants.{Queue, Time, Answer, Timer, Abort, ResetDevice, ResetTarget, ResetBus, ResetHost, Probe as Probing}

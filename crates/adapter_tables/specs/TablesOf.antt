@@ -1,11 +1,12 @@
 -- What contracts see of the tables that are looked up by address.
 use Rattle.std.specs.Prelude.{List}
 use Rattle.adapter_tables.specs.declared.counts.CountRow.{CountRow}
-use Rattle.adapter_tables.specs.declared.unit_row.UnitRow.{UnitRow}
+use Rattle.adapter_tables.specs.declared.device_rows.UnitRow.{UnitRow}
 use Rattle.mid_base.specs.declared.faults.PlanEntry.{PlanEntry}
-use Rattle.adapter_tables.specs.declared.plan_table.PlanTable.{PlanTable}
-use Rattle.adapter_tables.specs.declared.count_table.CountTable.{CountTable}
-use Rattle.adapter_tables.specs.declared.unit_table.UnitTable.{UnitTable}
+use Rattle.fault_plan.specs.Lines.{lines_in}
+use Rattle.adapter_tables.specs.declared.device_tables.PlanTable.{PlanTable}
+use Rattle.adapter_tables.specs.declared.device_tables.CountTable.{CountTable}
+use Rattle.adapter_tables.specs.declared.device_tables.UnitTable.{UnitTable}
 
 -- the rows of all devices, in the order of the spec
 abbrev pub rows_of : CountTable → List CountRow
@@ -17,4 +18,4 @@ units_of t = t.units.items
 
 -- the lines of the plan, in their order
 abbrev pub plan_of : PlanTable → List PlanEntry
-plan_of t = t.plan.items
+plan_of t = lines_in t.plan

@@ -17,7 +17,7 @@ use Rattle.debug_lun.specs.Units.{LogicalUnit, Reply, unit_of, unit_for, after_r
 use Rattle.adapter_tables.specs.declared.held.Held.{Held}
 use Rattle.adapter_tables.specs.declared.counts.CallCounts.{CallCounts}
 use Rattle.adapter_tables.specs.declared.counts.CountRow.{CountRow}
-use Rattle.adapter_tables.specs.declared.unit_row.UnitRow.{UnitRow}
+use Rattle.adapter_tables.specs.declared.device_rows.UnitRow.{UnitRow}
 use Rattle.adapter_tables.specs.Held.{is_due, due_from, precedes}
 use Rattle.adapter_tables.specs.Units.{target_luns}
 

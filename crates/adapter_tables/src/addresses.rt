@@ -1,9 +1,10 @@
 ghost use Rattle.std.specs.Prelude.{◌≡◌, map, true, false, slice_get, IfOk, MatchOption, Some};
 ghost use Rattle.std.specs.Bool.{OnTrue};
 ghost use Rattle.mid_base.specs.Limits.{differ_in_address};
+ghost use Rattle.mid_base.specs.Address.{in_scope};
 ghost use Rattle.adapter_tables.specs.Addresses.{are_apart, has_address, lun_devs};
 
-use mid_base::{DevAddr, LunSpec, NoMemory, same_dev};
+use mid_base::{DevAddr, LunSpec, NoMemory, Scope, same_dev};
 use std::alloc::Global;
 use std::collections::BTreeMap;
 
@@ -75,5 +76,18 @@ impl Addresses {
             }
         }
         scan(&self.devs, dev)
+    }
+}
+
+// Whether the scope of a reset has the device.
+pub(crate) fn covers(scope: Scope, dev: DevAddr) -> bool
+    ensures { result ≡ in_scope scope dev }
+{
+    match scope {
+        Scope::Cmd(_) => false,
+        Scope::Dev(d) => same_dev(d, dev),
+        Scope::Target(channel, target) => channel == dev.channel && target == dev.target,
+        Scope::Bus(channel) => channel == dev.channel,
+        Scope::Host => true,
     }
 }

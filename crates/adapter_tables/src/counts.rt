@@ -5,8 +5,8 @@ ghost use Rattle.adapter_tables.specs.TablesOf.{plan_of};
 ghost use Rattle.adapter_tables.specs.Ties.{up, bump, count_in, counted_row, any_hit_in};
 
 use crate::PlanTable;
+use crate::addresses::covers;
 use crate::planned::fault_at;
-use crate::scopes::covers;
 use fault_plan::Class;
 use mid_base::{DevAddr, Scope};
 

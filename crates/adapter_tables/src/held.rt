@@ -2,7 +2,7 @@ ghost use Rattle.std.specs.Prelude.{◌≡◌, ◌<◌, ◌^◌};
 ghost use Rattle.mid_base.specs.Address.{in_scope};
 ghost use Rattle.adapter_tables.specs.Held.{due_tick, due_from, is_attempt, is_due as is_due_by, precedes};
 
-use crate::scopes::covers;
+use crate::addresses::covers;
 use mid_base::{Attempt, CdbBytes, DevAddr, Fault, Scope};
 
 /// An attempt that waits for its answer: when it is due, if ever, and the fault that makes its answer, if one does.

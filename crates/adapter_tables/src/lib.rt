@@ -12,36 +12,30 @@
 #![tactic(auto)]
 
 mod addresses;
-mod count_table;
 mod counts;
-mod device_plan;
+mod device_rows;
+mod device_tables;
 mod faults;
 mod held;
 mod held_table;
 mod lun_numbers;
 mod new_rows;
 mod numbering;
-mod plan_table;
 mod planned;
 mod probes;
 mod resets;
-mod scopes;
 #[cfg(test)]
 mod tests;
-mod unit_row;
-mod unit_table;
 mod units;
 
-pub use count_table::CountTable;
 pub use counts::{CallCounts, CountRow};
+pub use device_rows::UnitRow;
+pub use device_tables::{CountTable, PlanTable, UnitTable};
 pub use faults::{busy_answer, sent_attempt, timer_answer};
 pub use held::Held;
 pub use held_table::{first_due, hold, is_any_due, let_go, set_due};
 pub use numbering::next_number;
-pub use plan_table::PlanTable;
 pub use planned::fault_at;
 pub use probes::{probe_unit, probes_are_served};
 pub use resets::reset;
-pub use unit_row::UnitRow;
-pub use unit_table::UnitTable;
 pub use units::answer_held;

@@ -1,7 +1,8 @@
 ghost use Rattle.std.specs.Prelude.{◌≡◌, ◌≤◌, ℕ, List, length, take, IfOk, OnOk, OnErr, true};
 ghost use Rattle.mid_base.specs.Bytes.{cdb_list};
 ghost use Rattle.mid_base.specs.declared.bytes.CdbBytes.{CdbBytes as Cdb};
-ghost use Rattle.host_template.specs.Probes.{IsProbe, allocation, code_of, taken, request_sense, inquiry, report_luns};
+ghost use Rattle.mid_base.specs.Codes.{request_sense, inquiry, report_luns};
+ghost use Rattle.host_template.specs.Probes.{IsProbe, allocation, code_of, taken};
 ghost use Rattle.debug_lun.specs.Units.{LogicalUnit, reply_of, unit_of};
 ghost use Rattle.debug_lun.specs.Commands.{read_command};
 ghost use Rattle.debug_lun.specs.Serving.{serve, placed, is_accepted_write};
@@ -24,19 +25,13 @@ pub fn probes_are_served()
     ensures report_luns { (luns : List ℕ) (u : LogicalUnit) → (probed luns u report_luns).unit ≡ u }
 {}
 
-fn clear(buffer: &mut [u8])
-    requires { length buffer.old ≡ 131072 }
-    ensures { buffer.new ≡ data_out 0 }
-{
-    buffer.fill(0);
-}
-
-// Makes the command of a probe.
+// Makes the command of a probe, which looks at no data-out.
+#[tactic(auto, using(crate::proofs::ProbeLaws::probe_looks_at_none))]
 fn serve_probe(x: &mut UnitRow, cdb: &CdbBytes, buffer: &mut [u8]) -> Result<Answer, NoMemory>
     requires room { length buffer.old ≡ 131072 }
-    requires clear { buffer.old ≡ data_out 0 }
+    requires known { IsProbe cdb.now }
     ensures ok { IfOk result (λ a. WasServed x.old x.new (λ luns u. served_pair (serve u (cdb_list cdb.now) luns (data_out 0))) (reply_of a)) }
-    ensures given { OnOk result (buffer.new ≡ placed (serve (unit_of x.old.lun) (cdb_list cdb.now) x.old.luns.items (data_out 0)).data_in (data_out 0)) }
+    ensures given { OnOk result (buffer.new ≡ placed (serve (unit_of x.old.lun) (cdb_list cdb.now) x.old.luns.items (data_out 0)).data_in buffer.old) }
     ensures write { OnErr result (is_accepted_write (unit_of x.old.lun) (read_command (cdb_list cdb.now)) ≡ true) }
 {
     x.lun.exec(cdb, &x.luns, buffer)
@@ -58,7 +53,6 @@ fn answer_probe(x: &mut UnitRow, cdb: &CdbBytes, buffer: &mut [u8], into: &mut [
     ensures served { WasServed x.old x.new (λ luns u. served_pair (probed luns u (code_of cdb.now))) (reply_of result) }
     ensures given { taken (code_of cdb.now) (Answered result) into.new ≡ (probed x.old.luns.items (unit_of x.old.lun) (code_of cdb.now)).data_in }
 {
-    clear(buffer);
     let Ok(a) = serve_probe(x, cdb, buffer) else {
         unreachable!()
     };

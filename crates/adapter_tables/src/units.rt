@@ -10,8 +10,9 @@ ghost use Rattle.adapter_tables.specs.Answering.{Answers};
 ghost use Rattle.adapter_tables.specs.TablesOf.{units_of};
 ghost use Rattle.adapter_tables.specs.Ties.{has_unit, WasServed, WasKept, WereKept, WasReset, WereReset};
 
-use crate::scopes::covers;
+use crate::addresses::covers;
 use crate::{Held, UnitRow, UnitTable};
+use debug_lun::data_needed;
 use mid_base::{
     Answer, CHECK_CONDITION, CdbBytes, DID_OK, DevAddr, Fault, GOOD, HostByte, NoMemory, Scope,
     SenseBytes,
@@ -48,21 +49,22 @@ fn check(key: u8, asc: u8, ascq: u8) -> Answer
     )
 }
 
-fn fill_with(buffer: &mut Vec<u8>, byte: u8)
-    requires { vec_len buffer.old ≡ 131072 }
-    ensures { buffer.new.items ≡ data_out byte }
+// Puts so many bytes of a write's data into the front of the buffer.
+fn fill_front(buffer: &mut [u8], count: usize, byte: u8)
+    requires { count ≤ length buffer.old }
+    ensures { take count buffer.new ≡ replicate count byte }
 {
-    buffer.fill(byte);
+    buffer[..count].fill(byte);
 }
 
 // Makes the command of an attempt.
-fn execute(x: &mut UnitRow, h: &Held, buffer: &mut Vec<u8>) -> Result<Answer, NoMemory>
-    requires { length buffer.old.items ≡ 131072 }
+fn execute(x: &mut UnitRow, h: &Held, buffer: &mut [u8]) -> Result<Answer, NoMemory>
+    requires { length buffer.old ≡ 131072 }
     ensures ok { IfOk result (λ a. WasServed x.old x.new (λ luns u. served_pair (serve u (cdb_list h.now.cdb) luns (data_out h.now.fill))) (reply_of a)) }
     ensures err { OnErr result (WasKept x.old x.new) }
-    ensures len { length buffer.new.items ≡ length buffer.old.items }
+    ensures len { length buffer.new ≡ length buffer.old }
 {
-    fill_with(buffer, h.fill);
+    fill_front(buffer, data_needed(&h.cdb), h.fill);
     x.lun.exec(&h.cdb, &x.luns, buffer)
 }
 

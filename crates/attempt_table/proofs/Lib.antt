@@ -4,7 +4,8 @@ pub mod Shown
 pub mod Claimed
 pub mod Numbers
 pub mod Changes
-pub mod Entries
+pub mod Moves
+pub mod Found
 pub mod Sending
 pub mod Queries
 pub mod Told

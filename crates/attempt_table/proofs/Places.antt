@@ -1,14 +1,12 @@
 -- Rows and tags at their places, after a change at one place or one row more.
-use Rattle.std.proofs.Common.{◌≡◌, ◌≢◌, ℕ, zero, suc, ◌+◌, ◌-◌, ◌<◌, ◌≤◌, true, List, [], ◌∷◌, ◌++◌, Option, Some, None, length, refl, sym, ap, ◌∙◌, subst, arith}
+use Rattle.std.proofs.Common.{◌≡◌, ◌≢◌, ℕ, zero, suc, ◌+◌, ◌-◌, ◌<◌, ◌≤◌, List, [], ◌∷◌, ◌++◌, Option, Some, None, length, refl, sym, ap, ◌∙◌, subst, arith}
 use Rattle.std.specs.Prelude.{slice_get, slice_set}
 use Rattle.std.proofs.Math.ListN.{length-set}
 use Rattle.mid_base.specs.declared.answers.TagState.{TagState}
 use Rattle.mid_base.specs.declared.entries.Entry.{Entry}
-use Rattle.trace_model.specs.Steps.{tag_state, tags_from}
-use Rattle.attempt_table.specs.declared.rows.Phase.{Phase}
-use Rattle.attempt_table.specs.declared.rows.Phase.TheVariants.{Open, Answered, Owned, Settled, Bounced}
+use Rattle.trace_model.specs.Tags.{tag_state, tags_from}
 use Rattle.attempt_table.specs.declared.rows.Row.{Row}
-use Rattle.attempt_table.specs.Rows.{row_of, wanting_at, wanting_in, with_phase, Moves}
+use Rattle.attempt_table.specs.Rows.{row_of, Becomes}
 
 get_past : {A : Type 0} (xs : List A) (k : ℕ) → length xs ≤ k → slice_get xs k ≡ None
 get_past [] k le = refl
@@ -39,6 +37,11 @@ get_set_other (z ∷ zs) zero (suc j) x ne = refl
 get_set_other (z ∷ zs) (suc k) zero x ne = refl
 get_set_other (z ∷ zs) (suc k) (suc j) x ne = get_set_other zs k j x (λ e. ne (ap suc e))
 
+pub get_set_within : {A : Type 0} (xs : List A) (k : ℕ) (x : A) → k < length xs → slice_get (slice_set xs k x) k ≡ Some x
+get_set_within [] k x lt = absurd (omega (arith, lt))
+get_set_within (z ∷ zs) zero x lt = refl
+get_set_within (z ∷ zs) (suc k) x lt = get_set_within zs k x (omega (arith, lt))
+
 get_within : {A : Type 0} (xs : List A) (k : ℕ) (y : A) → slice_get xs k ≡ Some y → k < length xs
 get_within [] k y there = cc
 get_within (x ∷ xs) zero y there = omega arith
@@ -61,34 +64,24 @@ pub row_front : (rows : List Row) (row : Row) (n : ℕ) → n ≢ length rows + 
 row_front rows row zero ne = refl
 row_front rows row (suc k) ne = get_front rows row k (λ e. ne (omega (arith, e)))
 
--- a row in another phase
-pub wanting_row : (n : ℕ) (x : Phase) (old new : List Row) (h : Moves n x old new) → wanting_in (row_of n old) ≡ true → h.row.phase ≡ Open
-wanting_row n x old new h wanting = by_phase h.row.phase (sym (ap wanting_in h.was) ∙ wanting)
-  where
-    by_phase : (y : Phase) → wanting_at y ≡ true → y ≡ Open
-    by_phase Open is = refl
-    by_phase (Answered a) is = cc
-    by_phase (Owned a) is = cc
-    by_phase (Settled a) is = cc
-    by_phase Bounced is = cc
-
-pub moved_here : (n : ℕ) (x : Phase) (old new : List Row) (h : Moves n x old new) → row_of n new ≡ Some (with_phase x h.row)
-moved_here zero x old new h = let there : ◌≡◌ {A = Option Row} None (Some h.row) = h.was in cc
-moved_here (suc k) x old new h =
+-- another row of one attempt
+pub row_here : (n : ℕ) (f : Row → Row) (old new : List Row) (h : Becomes n f old new) → row_of n new ≡ Some (f h.row)
+row_here zero f old new h = let there : ◌≡◌ {A = Option Row} None (Some h.row) = h.was in cc
+row_here (suc k) f old new h =
     let place : suc k - 1 ≡ k = omega arith in
-    let moved : new ≡ slice_set old k (with_phase x h.row) = h.moved ∙ ap (λ (j : ℕ). slice_set old j (with_phase x h.row)) place in
-    ap (λ (rows : List Row). slice_get rows k) moved ∙ get_set_same old k (with_phase x h.row) h.row h.was
+    let is : new ≡ slice_set old k (f h.row) = h.is ∙ ap (λ (j : ℕ). slice_set old j (f h.row)) place in
+    ap (λ (rows : List Row). slice_get rows k) is ∙ get_set_same old k (f h.row) h.row h.was
 
-pub moved_other : (n : ℕ) (x : Phase) (old new : List Row) → Moves n x old new → (k : ℕ) → k ≢ n → row_of k new ≡ row_of k old
-moved_other n x old new h zero ne = refl
-moved_other zero x old new h (suc j) ne = let there : ◌≡◌ {A = Option Row} None (Some h.row) = h.was in cc
-moved_other (suc k) x old new h (suc j) ne =
+pub row_other : (n : ℕ) (f : Row → Row) (old new : List Row) → Becomes n f old new → (k : ℕ) → k ≢ n → row_of k new ≡ row_of k old
+row_other n f old new h zero ne = refl
+row_other zero f old new h (suc j) ne = let there : ◌≡◌ {A = Option Row} None (Some h.row) = h.was in cc
+row_other (suc k) f old new h (suc j) ne =
     let place : suc k - 1 ≡ k = omega arith in
-    let moved : new ≡ slice_set old k (with_phase x h.row) = h.moved ∙ ap (λ (i : ℕ). slice_set old i (with_phase x h.row)) place in
-    ap (λ (rows : List Row). slice_get rows j) moved ∙ get_set_other old k j (with_phase x h.row) (λ e. ne (ap suc e))
+    let is : new ≡ slice_set old k (f h.row) = h.is ∙ ap (λ (i : ℕ). slice_set old i (f h.row)) place in
+    ap (λ (rows : List Row). slice_get rows j) is ∙ get_set_other old k j (f h.row) (λ e. ne (ap suc e))
 
-pub moved_length : (n : ℕ) (x : Phase) (old new : List Row) → Moves n x old new → length new ≡ length old
-moved_length n x old new h = ap length h.moved ∙ length-set old (n - 1) (with_phase x h.row)
+pub rows_length : (n : ℕ) (f : Row → Row) (old new : List Row) → Becomes n f old new → length new ≡ length old
+rows_length n f old new h = ap length h.is ∙ length-set old (n - 1) (f h.row)
 
 -- the states of tags
 pub tags_same : (t q : ℕ) (P P' : List Entry) → ((v : ℕ) → t ≤ v → tag_state P' v ≡ tag_state P v) → tags_from t q P' ≡ tags_from t q P

@@ -1,44 +1,48 @@
 -- What the table says after an attempt was sent.
-use Rattle.std.proofs.Common.{◌≡◌, ◌≢◌, ℕ, ◌+◌, ◌<◌, ◌==◌, true, List, [], ◌∷◌, ◌++◌, Option, Some, None, length, refl, sym, ap, ◌∙◌, subst, arith, inl, inr}
+use Rattle.std.proofs.Common.{◌≡◌, ◌≢◌, ℕ, ◌+◌, ◌<◌, ◌==◌, true, false, List, [], ◌∷◌, ◌++◌, Option, Some, None, length, refl, sym, ap, ◌∙◌, subst, arith, inl, inr}
 use Rattle.std.specs.Prelude.{slice_get, slice_set}
 use Rattle.std.proofs.Math.ListN.{length-append}
 use Rattle.std.proofs.lemmas.Bool.{cases_Bool, cases_eq, eqb-true}
 use Rattle.std.proofs.lemmas.List.{append-nil}
+use Rattle.mid_base.specs.declared.names.CmdId.{CmdId}
+use Rattle.mid_base.specs.declared.names.Tag.{Tag}
+use Rattle.mid_base.specs.declared.answers.Answer.{Answer}
 use Rattle.mid_base.specs.declared.answers.TagState.{TagState}
 use Rattle.mid_base.specs.declared.answers.TagState.TheVariants.{Free as TagFree, Armed as TagArmed}
 use Rattle.mid_base.specs.declared.entries.Entry.{Entry}
 use Rattle.mid_base.specs.declared.entries.Entry.TheVariants.{Sent}
 use Rattle.mid_base.specs.declared.host_spec.HostSpec.{HostSpec}
-use Rattle.mid_base.specs.Past.{ticks, was_sent}
-use Rattle.trace_model.specs.Names.{command}
-use Rattle.trace_model.specs.Attempts.{attempts}
-use Rattle.trace_model.specs.Time.{deadline}
-use Rattle.trace_model.specs.Steps.{sent_with, tag_state, tag_states, tag_for, claims_of, claims_among, waiting_claims}
-use Rattle.attempt_table.specs.declared.rows.Phase.TheVariants.{Open}
+use Rattle.mid_base.specs.Past.{was_sent}
+use Rattle.trace_model.specs.Attempts.{attempts, answer}
+use Rattle.trace_model.specs.Tags.{sent_with, tag_state, tag_states}
+use Rattle.trace_model.specs.Claims.{tag_for, claims_of, claims_among, waiting_claims}
 use Rattle.attempt_table.specs.declared.rows.Row.{Row}
-use Rattle.attempt_table.specs.Rows.{row_of, next_attempt, open_at, claimed_at, owner_at, answer_at, settled_at, live_in, tag_in, shown_in}
+use Rattle.attempt_table.specs.Rows.{row_of, next_attempt, sent_row, live_in, keeps_in, tag_in, shown_in}
 use Rattle.attempt_table.specs.Claims.{Claim}
-use Rattle.attempt_table.specs.Tells.{Reads, Says}
-use Rattle.attempt_table.proofs.Bools.{same, differ}
+use Rattle.attempt_table.specs.AttemptsAgree.{Reads, IsSound, Says}
+use Rattle.attempt_table.proofs.Bools.{same, differ, and_first}
 use Rattle.attempt_table.proofs.Numbers.{countdown_more}
 use Rattle.attempt_table.proofs.Places.{row_new, row_last, row_front, tags_set, tags_within}
-use Rattle.attempt_table.proofs.Shown.{state_in, claims_in, state_is, claims_are, last_was_sent, shown_held, tag_is, live_is_shown}
+use Rattle.attempt_table.proofs.Shown.{claims_in, state_is, claims_are, last_was_sent, shown_held, tag_is, live_is_shown}
 use Rattle.attempt_table.proofs.Claimed.{among_are, among_same}
 
-module _ (s : HostSpec) (P : List Entry) (table : List Row) (shown : List TagState) (waiting : List Claim) (strays : List ℕ) (run : Says s P table shown waiting strays)
-    (row : Row) (is : row.phase ≡ Open) (free : slice_get shown row.tag.0 ≡ Some TagFree) (due : row.deadline.0 ≡ ticks P + (command s row.command.0).timeout) where
+module _ (s : HostSpec) (P : List Entry) (table : List Row) (shown : List TagState) (kept : List (Option Answer)) (waiting : List Claim) (lates : List ℕ) (run : Says s P table shown kept waiting lates)
+    (c : CmdId) (place : ℕ) (t : Tag) (free : slice_get shown t.0 ≡ Some TagFree) where
   abbrev next : ℕ
   next = length table + 1
 
+  abbrev row : Row
+  row = sent_row c place t
+
   abbrev P' : List Entry
-  P' = Sent row.command (next_attempt table) row.tag ∷ P
+  P' = Sent c (next_attempt table) t ∷ P
 
   abbrev table' : List Row
   table' = table ++ row ∷ []
 
   -- the number is new
-  at_new : Reads s P next None
-  at_new = subst (λ (r : Option Row). Reads s P next r) (row_new table next refl) (run.rows next)
+  at_new : Reads P next None
+  at_new = subst (λ (r : Option Row). Reads P next r) (row_new table next refl) (run.rows next)
 
   fresh : (u : ℕ) → next ≢ sent_with u P
   fresh u e =
@@ -46,96 +50,101 @@ module _ (s : HostSpec) (P : List Entry) (table : List Row) (shown : List TagSta
       let sent : was_sent next P ≡ true = subst (λ (m : ℕ). was_sent m P ≡ true) (sym e) (last_was_sent u P some) in
       cc (sent, at_new.0)
 
-  reads_next : Reads s P' next (Some row)
-  reads_next =
-      let after : deadline s P' next ≡ row.deadline.0 = rw (same next, (run.timeless next).2) (omega (arith, due)) in (
-        rw (same next) refl,
-        rw (same next) (sym (ap open_at is)),
-        rw (same next) (sym (ap claimed_at is)),
-        at_new.3 ∙ sym (ap answer_at is),
-        at_new.4 ∙ sym (ap owner_at is),
-        at_new.5 ∙ sym (ap settled_at is),
-        rw (same next) refl,
-        rw (same next) refl,
-        λ e. after,
-      )
+  reads_next : Reads P' next (Some row)
+  reads_next = (
+    rw (same next) refl,
+    rw (same next) refl,
+    rw (same next) refl,
+    at_new.3,
+    at_new.4,
+    at_new.5,
+    rw (same next) refl,
+    rw (same next) refl,
+    at_new.8,
+  )
 
-  rows' : (n : ℕ) → Reads s P' n (row_of n table')
+  rows' : (n : ℕ) → Reads P' n (row_of n table')
   rows' n = elim (cases_eq n next) [
     | inl e ↦
-        subst (λ (j : ℕ). Reads s P' j (row_of j table')) (sym e)
-        (subst (λ (r : Option Row). Reads s P' next r) (sym (row_last table row next refl)) reads_next)
+        subst (λ (j : ℕ). Reads P' j (row_of j table')) (sym e)
+        (subst (λ (r : Option Row). Reads P' next r) (sym (row_last table row next refl)) reads_next)
     | inr ne ↦
-        subst (λ (r : Option Row). Reads s P' n r) (sym (row_front table row n ne))
+        subst (λ (r : Option Row). Reads P' n r) (sym (row_front table row n ne))
         (rw (differ (λ (e : next ≡ n). ne (sym e))) (run.rows n))
   ]
 
+  last_row : (n : ℕ) → n ≡ next → row_of n table' ≡ Some row
+  last_row n e = ap (λ (j : ℕ). row_of j table') e ∙ row_last table row next refl
+
+  -- an attempt under way has another tag
+  apart : (n : ℕ) → live_in (row_of n table) ≡ true → t.0 ≢ (tag_in (row_of n table)).0
+  apart n living e =
+      let there = live_is_shown s P table shown kept waiting lates run n living in
+      let held : ◌≡◌ {A = Option TagState} (Some TagFree) (Some (shown_in n (row_of n table))) = sym free ∙ (ap (slice_get shown) e ∙ there) in
+      let same_state : TagFree ≡ shown_in n (row_of n table) = cc in
+      shown_held n (row_of n table) living (sym same_state)
+
   live' : (n : ℕ) → live_in (row_of n table') ≡ true → sent_with (tag_in (row_of n table')).0 P' ≡ n
-  live' n live = elim (cases_eq n next) [
-    | inl e ↦
-        let last : row_of n table' ≡ Some row = ap (λ (j : ℕ). row_of j table') e ∙ row_last table row next refl in
-        ap (λ (r : Option Row). sent_with (tag_in r).0 P') last ∙ (rw (same row.tag.0) refl ∙ sym e)
+  live' n living = elim (cases_eq n next) [
+    | inl e ↦ ap (λ (r : Option Row). sent_with (tag_in r).0 P') (last_row n e) ∙ (rw (same t.0) refl ∙ sym e)
     | inr ne ↦
         let front : row_of n table' ≡ row_of n table = row_front table row n ne in
-        let before : live_in (row_of n table) ≡ true = sym (ap live_in front) ∙ live in
-        let apart : row.tag.0 ≢ (tag_in (row_of n table)).0 = λ e.
-        let there = live_is_shown s P table shown waiting strays run n before in
-        let held : ◌≡◌ {A = Option TagState} (Some TagFree) (Some (shown_in n (row_of n table))) = sym free ∙ (ap (slice_get shown) e ∙ there) in
-        let same_state : TagFree ≡ shown_in n (row_of n table) = cc in
-        shown_held n (row_of n table) before (sym same_state)
-        in
-        ap (λ (r : Option Row). sent_with (tag_in r).0 P') front ∙ rw (differ apart) (run.live n before)
+        let before : live_in (row_of n table) ≡ true = sym (ap live_in front) ∙ living in
+        ap (λ (r : Option Row). sent_with (tag_in r).0 P') front ∙ rw (differ (apart n before)) (run.live n before)
   ]
 
   backs' : (u : ℕ) → sent_with u P' ≢ 0 → (tag_for (sent_with u P') P').0 ≡ u
-  backs' u some = elim (cases_Bool (row.tag.0 == u)) [
+  backs' u some = elim (cases_Bool (t.0 == u)) [
     | inl e ↦
         let last : sent_with u P' ≡ next = rw e refl in
-        subst (λ (m : ℕ). (tag_for m P').0 ≡ u) (sym last) (rw (same next) (eqb-true row.tag.0 u e))
+        subst (λ (m : ℕ). (tag_for m P').0 ≡ u) (sym last) (rw (same next) (eqb-true t.0 u e))
     | inr ne ↦
         let last : sent_with u P' ≡ sent_with u P = rw ne refl in
         subst (λ (m : ℕ). (tag_for m P').0 ≡ u) (sym last) (rw (differ (fresh u)) (run.backs u (λ none. some (last ∙ none))))
   ]
 
-  tag_below : row.tag.0 < s.can_queue
-  tag_below = tags_within 0 s.can_queue row.tag.0 P TagFree (ap (λ (xs : List TagState). slice_get xs row.tag.0) (sym run.tags) ∙ free)
+  tag_below : t.0 < s.can_queue
+  tag_below = tags_within 0 s.can_queue t.0 P TagFree (ap (λ (xs : List TagState). slice_get xs t.0) (sym run.tags) ∙ free)
 
   below' : (n : ℕ) → live_in (row_of n table') ≡ true → (tag_in (row_of n table')).0 < s.can_queue
-  below' n live = elim (cases_eq n next) [
-    | inl e ↦
-        let last : row_of n table' ≡ Some row = ap (λ (j : ℕ). row_of j table') e ∙ row_last table row next refl in
-        subst (λ (r : Option Row). (tag_in r).0 < s.can_queue) (sym last) tag_below
+  below' n living = elim (cases_eq n next) [
+    | inl e ↦ subst (λ (r : Option Row). (tag_in r).0 < s.can_queue) (sym (last_row n e)) tag_below
     | inr ne ↦
         let front : row_of n table' ≡ row_of n table = row_front table row n ne in
-        subst (λ (r : Option Row). (tag_in r).0 < s.can_queue) (sym front) (run.below n (sym (ap live_in front) ∙ live))
+        subst (λ (r : Option Row). (tag_in r).0 < s.can_queue) (sym front) (run.below n (sym (ap live_in front) ∙ living))
   ]
 
-  tag_from : (u m : ℕ) → sent_with u P' ≡ m → tag_state P' u ≡ state_in m (row_of m table')
-  tag_from u m e =
-      state_is s P' (sent_with u P') (row_of (sent_with u P') table') (rows' (sent_with u P'))
-      ∙ ap (λ (k : ℕ). state_in k (row_of k table')) e
+  keeps' : (n : ℕ) → keeps_in (row_of n table') ≡ true → slice_get kept (tag_in (row_of n table')).0 ≡ Some (answer n P')
+  keeps' n keeps = elim (cases_eq n next) [
+    | inl e ↦ let here : keeps_in (Some row) ≡ true = sym (ap keeps_in (last_row n e)) ∙ keeps in cc
+    | inr ne ↦
+        let front : row_of n table' ≡ row_of n table = row_front table row n ne in
+        ap (λ (r : Option Row). slice_get kept (tag_in r).0) front ∙ run.keeps n (sym (ap keeps_in front) ∙ keeps)
+  ]
 
-  tags' : slice_set shown row.tag.0 (TagArmed (next_attempt table)) ≡ tag_states s P'
+  tag_from : (u m : ℕ) → sent_with u P' ≡ m → tag_state P' u ≡ shown_in m (row_of m table')
+  tag_from u m e =
+      state_is P' (sent_with u P') (row_of (sent_with u P') table') (rows' (sent_with u P'))
+      ∙ ap (λ (k : ℕ). shown_in k (row_of k table')) e
+
+  tags' : slice_set shown t.0 (TagArmed (next_attempt table)) ≡ tag_states s P'
   tags' =
-      let opened : state_in next (Some row) ≡ TagArmed (next_attempt table) = rw is refl in
-      let last : sent_with row.tag.0 P' ≡ next = rw (same row.tag.0) refl in
-      let here : tag_state P' row.tag.0 ≡ TagArmed (next_attempt table) = tag_from row.tag.0 next last ∙ (ap (state_in next) (row_last table row next refl) ∙ opened) in
-      let others : (v : ℕ) → v ≢ row.tag.0 → tag_state P' v ≡ tag_state P v = λ v ne.
-      let before : sent_with v P' ≡ sent_with v P = rw (differ (λ (e : row.tag.0 ≡ v). ne (sym e))) refl in
+      let last : sent_with t.0 P' ≡ next = rw (same t.0) refl in
+      let here : tag_state P' t.0 ≡ TagArmed (next_attempt table) = tag_from t.0 next last ∙ ap (shown_in next) (row_last table row next refl) in
+      let others : (v : ℕ) → v ≢ t.0 → tag_state P' v ≡ tag_state P v = λ v ne.
+      let before : sent_with v P' ≡ sent_with v P = rw (differ (λ (e : t.0 ≡ v). ne (sym e))) refl in
       tag_from v (sent_with v P) before
-      ∙ (ap (state_in (sent_with v P)) (row_front table row (sent_with v P) (λ e. fresh v (sym e)))
-      ∙ sym (tag_is s P table shown waiting strays run v))
+      ∙ (ap (shown_in (sent_with v P)) (row_front table row (sent_with v P) (λ e. fresh v (sym e)))
+      ∙ sym (tag_is s P table shown kept waiting lates run v))
       in
-      ap (λ (xs : List TagState). slice_set xs row.tag.0 (TagArmed (next_attempt table))) run.tags
-      ∙ sym (tags_set 0 s.can_queue row.tag.0 row.tag.0 P P' (TagArmed (next_attempt table)) (omega arith) others here)
+      ap (λ (xs : List TagState). slice_set xs t.0 (TagArmed (next_attempt table))) run.tags
+      ∙ sym (tags_set 0 s.can_queue t.0 t.0 P P' (TagArmed (next_attempt table)) (omega arith) others here)
 
   unclaimed : (n : ℕ) → claims_in n (row_of n table') ≡ claims_in n (row_of n table)
   unclaimed n = elim (cases_eq n next) [
     | inl e ↦
-        let last : row_of n table' ≡ Some row = ap (λ (j : ℕ). row_of j table') e ∙ row_last table row next refl in
         let new : row_of n table ≡ None = row_new table n e in
-        let none : claims_in n (Some row) ≡ [] = rw is refl in
-        ap (claims_in n) last ∙ (none ∙ sym (ap (claims_in n) new))
+        ap (claims_in n) (last_row n e) ∙ sym (ap (claims_in n) new)
     | inr ne ↦ ap (claims_in n) (row_front table row n ne)
   ]
 
@@ -144,21 +153,27 @@ module _ (s : HostSpec) (P : List Entry) (table : List Row) (shown : List TagSta
       let before : ℕ → List Claim = λ n. claims_in n (row_of n table) in
       let after : ℕ → List Claim = λ n. claims_in n (row_of n table') in
       let last : claims_of P' next ≡ [] =
-      claims_are s P' next (row_of next table') (rows' next) (run.timeless next).0
+      claims_are P' next (row_of next table') (rows' next)
       ∙ (unclaimed next ∙ ap (claims_in next) (row_new table next refl))
       in
       let earlier : claims_among P' (attempts P) ≡ waiting =
-      among_are P' after (attempts P) (λ n. claims_are s P' n (row_of n table') (rows' n) (run.timeless n).0)
+      among_are P' after (attempts P) (λ n. claims_are P' n (row_of n table') (rows' n))
       ∙ (among_same before after (attempts P) unclaimed
-      ∙ (sym (among_are P before (attempts P) (λ n. claims_are s P n (row_of n table) (run.rows n) (run.timeless n).0))
+      ∙ (sym (among_are P before (attempts P) (λ n. claims_are P n (row_of n table) (run.rows n)))
       ∙ sym run.claims))
       in
       sym (ap (λ (xs : List Claim). claims_among P' (attempts P) ++ xs) last ∙ (append-nil (claims_among P' (attempts P)) ∙ earlier))
 
+  sound' : (n : ℕ) → IsSound (row_of n table')
+  sound' n = elim (cases_eq n next) [
+    | inl e ↦ subst (λ (x : Option Row). IsSound x) (sym (last_row n e)) (λ owned. cc, λ opened. refl)
+    | inr ne ↦ subst (λ (x : Option Row). IsSound x) (sym (row_front table row n ne)) (run.sound n)
+  ]
+
   count' : length table' ≡ length table + 1
   count' = length-append table (row ∷ [])
 
-  pub says_sent : Says s P' table' (slice_set shown row.tag.0 (TagArmed (next_attempt table))) waiting strays
+  pub says_sent : Says s P' table' (slice_set shown t.0 (TagArmed (next_attempt table))) kept waiting lates
   says_sent = record {
     rows = rows';
     sends_are = rw (run.sends_are, count') refl;
@@ -167,7 +182,9 @@ module _ (s : HostSpec) (P : List Entry) (table : List Row) (shown : List TagSta
     backs = backs';
     below = below';
     tags = tags';
+    places = run.places;
+    keeps = keeps';
     claims = claims';
-    lates = run.lates;
-    timeless = run.timeless;
+    sound = sound';
+    lates_are = run.lates_are;
   }

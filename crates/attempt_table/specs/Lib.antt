@@ -1,3 +1,3 @@
 pub mod Rows
 pub mod Claims
-pub mod Tells
+pub mod AttemptsAgree

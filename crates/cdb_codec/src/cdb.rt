@@ -1,3 +1,6 @@
+use std::error::Error;
+use std::fmt;
+
 /// A command, with the fields of its block. TEST UNIT READY, REQUEST SENSE, INQUIRY and REPORT LUNS are those of SPC-4,
 /// the others those of SBC-3; the name's number is the length of the block in bytes.
 ///
@@ -108,3 +111,18 @@ pub enum CdbFault {
     /// A bit is set that isn't in a named field. Of the bytes with such a bit it names the first, counted from 0.
     ReservedField(u8),
 }
+
+impl fmt::Display for CdbFault {
+    fn fmt<W: fmt::Write>(&self, f: &mut fmt::Formatter<W>) -> fmt::Result {
+        match self {
+            CdbFault::UnknownCode(code) => write!(f, "{code:02x}h is the code of no command"),
+            CdbFault::WrongLength(has, wanted) => write!(
+                f,
+                "{has} bytes, and the command has {wanted}"
+            ),
+            CdbFault::ReservedField(byte) => write!(f, "a reserved bit of byte {byte} is set"),
+        }
+    }
+}
+
+impl Error for CdbFault {}

@@ -1,4 +1,5 @@
 use crate::{Cdb, CdbFault, decode, decode_encoded, encode, encode_decoded};
+use std::alloc::AllocError;
 
 // A command and its bytes in each row, which ends with a semicolon.
 macro_rules! commands {
@@ -194,4 +195,19 @@ fn other_bytes_are_refused_for_their_first_reason(rt: HostRuntime) {
         assert_eq!(rt; decode(bytes), Err(fault), "reading {bytes:?}");
         assert_eq!(rt; encode_decoded(bytes), Err(fault), "reading {bytes:?}");
     }
+}
+
+#[test]
+fn faults_are_told_in_words(rt: HostRuntime) -> Result<(), AllocError> {
+    let told = format!(in rt.alloc();
+        "{}; {}; {}",
+        CdbFault::UnknownCode(0x5e),
+        CdbFault::WrongLength(6, 10),
+        CdbFault::ReservedField(4)
+    )?;
+    assert_eq!(rt;
+        told.as_str(),
+        "5eh is the code of no command; 6 bytes, and the command has 10; a reserved bit of byte 4 is set"
+    );
+    Ok(())
 }

@@ -25,7 +25,7 @@ use Rattle.command_table.specs.declared.rows.Taken.{Taken}
 use Rattle.command_table.specs.declared.commands.Commands.{Commands}
 use Rattle.command_table.specs.Rows.{row_of, is_ended, has_ended, is_open, AreFor, id_at, standing_at, IsBusyAt, IsOpenAt, is_left, first_left, IsFirstLeft, IsHoused, ids_of, waits_at}
 use Rattle.command_table.specs.Sets.{has}
-use Rattle.command_table.specs.Follows.{Reads, IsOrdered, IsPlaced, ArePlaced, ArePointed, Follows, IsApart}
+use Rattle.command_table.specs.CommandsAgree.{Reads, IsOrdered, IsPlaced, ArePlaced, ArePointed, CommandsAgree, IsApart}
 use Rattle.command_table.proofs.Places.{at_place, row_set, for_set, get_set, first_set, before_first}
 
 same : (n : ℕ) → (n == n) ≡ true
@@ -36,7 +36,7 @@ and_none true = refl
 and_none false = refl
 
 -- the row at a place says what the entries say of its command
-pub reads_at : (s : HostSpec) (P : List Entry) (t : Commands) → Follows s P t → (i : ℕ) (r : CommandRow) → slice_get t.rows.items i ≡ Some r → Reads P r.id.0 (Some r)
+pub reads_at : (s : HostSpec) (P : List Entry) (t : Commands) → CommandsAgree s P t → (i : ℕ) (r : CommandRow) → slice_get t.rows.items i ≡ Some r → Reads P r.id.0 (Some r)
 reads_at s P t f i r at = subst (λ (x : Option CommandRow). Reads P r.id.0 x) (at_place s.luns s.cmds t.rows.items f.rows_are f.ids i r at) (f.reads r.id.0)
 
 -- one row is written: its command is what the new row says, and every other is what it was
@@ -138,7 +138,7 @@ pub record Changes (old new : Commands) (i : ℕ) (r q : CommandRow) : Type 0 wh
   pub lane : q.lane ≡ r.lane
   pub device : q.device ≡ r.device
 
-module _ (s : HostSpec) (P : List Entry) (old new : Commands) (i : ℕ) (r q : CommandRow) (f : Follows s P old) (ch : Changes old new i r q) where
+module _ (s : HostSpec) (P : List Entry) (old new : Commands) (i : ℕ) (r q : CommandRow) (f : CommandsAgree s P old) (ch : Changes old new i r q) where
   rows_are_now : AreFor s.luns s.cmds new.rows.items
   rows_are_now = rw ch.rows (for_set s.luns s.cmds old.rows.items f.rows_are i r q ch.at ch.id ch.lane ch.device)
 
@@ -162,7 +162,7 @@ module _ (s : HostSpec) (P : List Entry) (old new : Commands) (i : ℕ) (r q : C
       → (q.standing ≢ New → is_ended q.standing ≡ false → slice_get old.taken.items q.order ≡ Some (record { place = i; command = q.id }))
       → q.order ≡ r.order → new.cursors.items ≡ old.cursors.items → new.taken.items ≡ old.taken.items
       → length new.waiting.items ≡ length old.waiting.items → ((d j : ℕ) → has new.waiting.items d j ≡ waits_at (set old.rows.items i q) old.taken.items d j)
-      → new.ended ≡ count_by has_ended new.rows.items → Follows s Q new
+      → new.ended ≡ count_by has_ended new.rows.items → CommandsAgree s Q new
   moved Q written order was is here same_order same_cursors same_taken same_count waiting ended = record {
     rows_are = rows_are_now;
     ids = f.ids;
@@ -187,7 +187,7 @@ module _ (s : HostSpec) (P : List Entry) (old new : Commands) (i : ℕ) (r q : C
       → IsOrdered new.rows.items new.taken.items → ArePlaced new.rows.items new.taken.items
       → new.cursors.items ≡ set old.cursors.items r.lane.0 (first_left r.lane.0 new.rows.items)
       → length new.waiting.items ≡ length old.waiting.items → ((d j : ℕ) → has new.waiting.items d j ≡ waits_at new.rows.items new.taken.items d j)
-      → new.ended ≡ count_by has_ended new.rows.items → Follows s Q new
+      → new.ended ≡ count_by has_ended new.rows.items → CommandsAgree s Q new
   handed_in Q written order was is ordered placed cursors same_count waiting ended = record {
     rows_are = rows_are_now;
     ids = f.ids;
@@ -266,7 +266,7 @@ counts_on old new i r q ch counted one other short e =
 -- the words of both lists of entries on commands are the same
 alike : (s : HostSpec) (P Q : List Entry) (t : Commands)
     → ((c : ℕ) → standing c Q ≡ standing c P) → ((c : ℕ) → retries c Q ≡ retries c P) → ((c : ℕ) → was_told c Q ≡ was_told c P) → taken Q ≡ taken P
-    → Follows s P t → Follows s Q t
+    → CommandsAgree s P t → CommandsAgree s Q t
 alike s P Q t a b c d f = record {
   rows_are = f.rows_are;
   ids = f.ids;
@@ -283,17 +283,30 @@ alike s P Q t a b c d f = record {
   ended = f.ended;
 }
 
-pub follows_apart : (s : HostSpec) (P : List Entry) (t : Commands) (e : Entry) → IsApart e → Follows s P t → Follows s (e ∷ P) t
+pub follows_apart : (s : HostSpec) (P : List Entry) (t : Commands) (e : Entry) → IsApart e → CommandsAgree s P t → CommandsAgree s (e ∷ P) t
 follows_apart s P t (entry.Ready n a) apart f = alike s P (entry.Ready n a ∷ P) t (λ c. refl) (λ c. refl) (λ c. refl) refl f
 follows_apart s P t (entry.Owned n by) apart f = alike s P (entry.Owned n by ∷ P) t (λ c. refl) (λ c. refl) (λ c. refl) refl f
 follows_apart s P t (entry.Judged k n d) apart f = alike s P (entry.Judged k n d ∷ P) t (λ c. refl) (λ c. refl) (λ c. refl) refl f
 follows_apart s P t (entry.Failed k n x) apart f = alike s P (entry.Failed k n x ∷ P) t (λ c. refl) (λ c. refl) (λ c. refl) refl f
 follows_apart s P t (entry.State d x) apart f = alike s P (entry.State d x ∷ P) t (λ c. refl) (λ c. refl) (λ c. refl) refl f
 follows_apart s P t entry.Tick apart f = alike s P (entry.Tick ∷ P) t (λ c. refl) (λ c. refl) (λ c. refl) refl f
+follows_apart s P t (entry.Due n) apart f = alike s P (entry.Due n ∷ P) t (λ c. refl) (λ c. refl) (λ c. refl) refl f
+follows_apart s P t (entry.Longer n) apart f = alike s P (entry.Longer n ∷ P) t (λ c. refl) (λ c. refl) (λ c. refl) refl f
+follows_apart s P t (entry.DoneSaid n) apart f = alike s P (entry.DoneSaid n ∷ P) t (λ c. refl) (λ c. refl) (λ c. refl) refl f
+follows_apart s P t (entry.Late n) apart f = alike s P (entry.Late n ∷ P) t (λ c. refl) (λ c. refl) (λ c. refl) refl f
+follows_apart s P t (entry.AbortSet c n) apart f = alike s P (entry.AbortSet c n ∷ P) t (λ c. refl) (λ c. refl) (λ c. refl) refl f
+follows_apart s P t (entry.Aborted c n ok) apart f = alike s P (entry.Aborted c n ok ∷ P) t (λ c. refl) (λ c. refl) (λ c. refl) refl f
+follows_apart s P t (entry.Cleared c level) apart f = alike s P (entry.Cleared c level ∷ P) t (λ c. refl) (λ c. refl) (λ c. refl) refl f
+follows_apart s P t (entry.Sensed c n sense) apart f = alike s P (entry.Sensed c n sense ∷ P) t (λ c. refl) (λ c. refl) (λ c. refl) refl f
+follows_apart s P t entry.EhBegin apart f = alike s P (entry.EhBegin ∷ P) t (λ c. refl) (λ c. refl) (λ c. refl) refl f
+follows_apart s P t entry.EhEnd apart f = alike s P (entry.EhEnd ∷ P) t (λ c. refl) (λ c. refl) (λ c. refl) refl f
+follows_apart s P t (entry.Act level scope ok) apart f = alike s P (entry.Act level scope ok ∷ P) t (λ c. refl) (λ c. refl) (λ c. refl) refl f
+follows_apart s P t (entry.Probe d op say) apart f = alike s P (entry.Probe d op say ∷ P) t (λ c. refl) (λ c. refl) (λ c. refl) refl f
+follows_apart s P t (entry.Offline d) apart f = alike s P (entry.Offline d ∷ P) t (λ c. refl) (λ c. refl) (λ c. refl) refl f
 follows_apart s P t e apart f = absurd apart
 
 pub follows_bounced : (s : HostSpec) (P : List Entry) (t : Commands) (c : CmdId) (n m : Attempt) (u : Tag) (why : BusyOf) → standing c.0 P ≡ Waits
-    → Follows s P t → Follows s (entry.Bounced c m why ∷ entry.Sent c n u ∷ P) t
+    → CommandsAgree s P t → CommandsAgree s (entry.Bounced c m why ∷ entry.Sent c n u ∷ P) t
 follows_bounced s P t c n m u why waits_now f = alike s P (entry.Bounced c m why ∷ entry.Sent c n u ∷ P) t stands (λ d. refl) (λ d. refl) refl f
   where
     stands : (d : ℕ) → standing d (entry.Bounced c m why ∷ entry.Sent c n u ∷ P) ≡ standing d P
@@ -318,11 +331,11 @@ open_isnt_ended Ended h = absurd (false≢true h)
 open_apart : (x : Standing) → is_open x ≡ true → x ≢ New
 open_apart x h e = false≢true (sym (ap is_open e) ∙ h)
 
-module _ (s : HostSpec) (P Q : List Entry) (old new : Commands) (i : ℕ) (r q : CommandRow) (f : Follows s P old) (ch : Changes old new i r q) (written : Written P Q r q) where
+module _ (s : HostSpec) (P Q : List Entry) (old new : Commands) (i : ℕ) (r q : CommandRow) (f : CommandsAgree s P old) (ch : Changes old new i r q) (written : Written P Q r q) where
   -- it goes on
   pub goes_on : taken Q ≡ taken P → is_open r.standing ≡ true → is_open q.standing ≡ true → q.order ≡ r.order
       → new.cursors.items ≡ old.cursors.items → new.taken.items ≡ old.taken.items → length new.waiting.items ≡ length old.waiting.items
-      → ((d j : ℕ) → has new.waiting.items d j ≡ waits_at (set old.rows.items i q) old.taken.items d j) → new.ended ≡ old.ended → Follows s Q new
+      → ((d j : ℕ) → has new.waiting.items d j ≡ waits_at (set old.rows.items i q) old.taken.items d j) → new.ended ≡ old.ended → CommandsAgree s Q new
   goes_on order was is same_order cursors same_taken same_count waiting ended =
       moved s P old new i r q f ch Q written order (open_isnt_new r.standing was) (open_isnt_new q.standing is)
       (λ _ _. rw (same_order, ch.id) (f.ordered i r ch.at (open_apart r.standing was) (open_isnt_ended r.standing was)))
@@ -332,7 +345,7 @@ module _ (s : HostSpec) (P Q : List Entry) (old new : Commands) (i : ℕ) (r q :
   -- it was reported
   pub reported : taken Q ≡ taken P → is_open r.standing ≡ true → q.standing ≡ Ended
       → q.order ≡ r.order → new.cursors.items ≡ old.cursors.items → new.taken.items ≡ old.taken.items → length new.waiting.items ≡ length old.waiting.items
-      → ((d j : ℕ) → has new.waiting.items d j ≡ waits_at (set old.rows.items i q) old.taken.items d j) → length old.rows.items < 2 ^ 64 → new.ended ≡ min (old.ended + 1) (2 ^ 64 - 1) → Follows s Q new
+      → ((d j : ℕ) → has new.waiting.items d j ≡ waits_at (set old.rows.items i q) old.taken.items d j) → length old.rows.items < 2 ^ 64 → new.ended ≡ min (old.ended + 1) (2 ^ 64 - 1) → CommandsAgree s Q new
   reported order was is same_order cursors same_taken same_count waiting short ended =
       moved s P old new i r q f ch Q written order (open_isnt_new r.standing was) (ap is_new is)
       (λ _ still. absurd (false≢true (sym still ∙ ap is_ended is)))
@@ -424,7 +437,7 @@ pub pointed_on : (before between after : List ℕ) (lane : ℕ) (rows then : Lis
 pointed_on before between after lane rows then same_before same_rows is = is ∙ ap (λ (ns : List ℕ). set ns lane (first_left lane rows)) same_before ∙ ap (λ (rs : List CommandRow). set before lane (first_left lane rs)) (sym same_rows)
 
 -- a command that waits or is busy has its place among those that were taken
-pub own_place : (s : HostSpec) (P : List Entry) (t : Commands) → Follows s P t → (i : ℕ) (r : CommandRow) → slice_get t.rows.items i ≡ Some r → is_open r.standing ≡ true
+pub own_place : (s : HostSpec) (P : List Entry) (t : Commands) → CommandsAgree s P t → (i : ℕ) (r : CommandRow) → slice_get t.rows.items i ≡ Some r → is_open r.standing ≡ true
     → slice_get t.taken.items r.order ≡ Some (record { place = i; command = r.id })
 own_place s P t f i r at still = f.ordered i r at (open_apart r.standing still) (open_isnt_ended r.standing still)
 

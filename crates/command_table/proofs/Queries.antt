@@ -23,7 +23,7 @@ use Rattle.command_table.specs.Sets.{has}
 use Rattle.mid_base.specs.declared.names.DevAddr.{DevAddr}
 use Rattle.mid_base.specs.declared.host_spec.LunSpec.{LunSpec}
 use Rattle.mid_base.specs.Address.{same_dev, has_dev}
-use Rattle.command_table.specs.Follows.{Reads, ArePointed, Follows, IsNext}
+use Rattle.command_table.specs.CommandsAgree.{Reads, ArePointed, CommandsAgree, IsNext}
 use Rattle.command_table.proofs.Places.{starts_for, next_is, both_at, command_at, first_is, first_passes}
 use Rattle.command_table.proofs.Entries.{reads_at}
 
@@ -33,7 +33,7 @@ same_length luns (k ∷ ks) (r ∷ rs) are = ap suc (same_length luns ks rs are.
 same_length luns [] (r ∷ rs) are = absurd are
 same_length luns (k ∷ ks) [] are = absurd are
 
-module _ (s : HostSpec) (P : List Entry) (t : Commands) (f : Follows s P t) where
+module _ (s : HostSpec) (P : List Entry) (t : Commands) (f : CommandsAgree s P t) where
   -- the rows tell which command of the spec is the next of a lane
   left_is : (lane i : ℕ) (k : CmdSpec) (r : CommandRow) → slice_get s.cmds i ≡ Some k → slice_get t.rows.items i ≡ Some r → is_left_in lane P k ≡ is_left lane r
   left_is lane i k r one other =
@@ -149,7 +149,7 @@ home_within d (l ∷ luns) h = elim (cases_Bool (same_dev l.dev d)) as (λ _. ho
 
 -- a table for a journal without entries
 pub starts : (s : HostSpec) (t : Commands) → differ_in_id s.cmds ≡ true → list_all (λ k. nat_lt k.lane.0 64) s.cmds ≡ true → list_all (λ k. has_dev s.luns k.dev) s.cmds ≡ true
-    → t.rows.items ≡ map (start_row s.luns) s.cmds → ArePointed t.rows.items t.cursors.items → length t.cursors.items ≡ 64 → t.taken.items ≡ [] → length t.waiting.items ≡ length s.luns → ((d j : ℕ) → has t.waiting.items d j ≡ false) → t.ended ≡ 0 → Follows s [] t
+    → t.rows.items ≡ map (start_row s.luns) s.cmds → ArePointed t.rows.items t.cursors.items → length t.cursors.items ≡ 64 → t.taken.items ≡ [] → length t.waiting.items ≡ length s.luns → ((d j : ℕ) → has t.waiting.items d j ≡ false) → t.ended ≡ 0 → CommandsAgree s [] t
 starts s t ids lanes devices rows pointed count taken sets none ended = record {
   rows_are = rw rows (starts_for s.luns s.cmds);
   ids = ids;

@@ -7,7 +7,7 @@ use Rattle.trace_model.specs.Commands.{waits, is_new}
 use Rattle.command_table.specs.declared.rows.CommandRow.{CommandRow}
 use Rattle.command_table.specs.declared.rows.Taken.{Taken}
 use Rattle.command_table.specs.Rows.{waits_row, waits_taken, waits_at}
-use Rattle.command_table.specs.Follows.{IsPlaced, ArePlaced}
+use Rattle.command_table.specs.CommandsAgree.{IsPlaced, ArePlaced}
 use Rattle.command_table.proofs.Places.{get_set}
 use Rattle.command_table.proofs.Entries.{get_push_old, get_push_new}
 

@@ -1,3 +1,3 @@
 pub mod Rows
-pub mod Follows
+pub mod CommandsAgree
 pub mod Sets

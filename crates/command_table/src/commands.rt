@@ -35,14 +35,14 @@ pub struct Commands {
 impl Commands {
     ghost use Rattle.command_table.specs.Rows.{id_at, standing_at, IsBusyAt, IsOpenAt, IsFirstLeft, IsHoused};
     ghost use Rattle.command_table.specs.Sets.{has, IsLeast};
-    ghost use Rattle.command_table.specs.Follows.{Follows, IsNext};
+    ghost use Rattle.command_table.specs.CommandsAgree.{CommandsAgree, IsNext};
 
     /// The table of an empty journal: no command is handed in. The commands' ids differ, and their lanes are below 64.
     pub fn new(alloc: Global, cmds: &[CmdSpec], luns: &[LunSpec]) -> Result<Commands, NoMemory>
         requires ids { differ_in_id cmds.now ≡ true }
         requires lanes { list_all (λ k. nat_lt k.lane.0 64) cmds.now ≡ true }
         requires devices { list_all (λ k. has_dev luns.now k.dev) cmds.now ≡ true }
-        ensures { IfOk result (λ t. (s : SpecSeen) → s.cmds ≡ cmds.now → s.luns ≡ luns.now → Follows s [] t) }
+        ensures { IfOk result (λ t. (s : SpecSeen) → s.cmds ≡ cmds.now → s.luns ≡ luns.now → CommandsAgree s [] t) }
     {
         let rows = rows_for(alloc, cmds, luns)?;
         let cursors = first_cursors(alloc, &rows)?;
@@ -58,7 +58,7 @@ impl Commands {
 
     /// The place of the next command of a lane, None where each is handed in.
     pub fn next_in(&self, lane: LaneNo) -> Option<usize>
-        ensures { (s : SpecSeen) (P : List EntrySeen) → Follows s P self.now → MatchOption result (next_of_lane s P lane.0 ≡ None) (IsNext s P self.now lane.0) }
+        ensures { (s : SpecSeen) (P : List EntrySeen) → CommandsAgree s P self.now → MatchOption result (next_of_lane s P lane.0 ≡ None) (IsNext s P self.now lane.0) }
     {
         let count = self.rows.as_slice().len();
         match self.cursors.as_slice().get(usize::from(lane.0)) {
@@ -91,7 +91,7 @@ impl Commands {
 
     /// Whether each command is handed in, and each that was taken is reported.
     pub fn drained(&self) -> bool
-        ensures { (s : SpecSeen) (P : List EntrySeen) → Follows s P self.now → list_all (is_done P) s.cmds ≡ result }
+        ensures { (s : SpecSeen) (P : List EntrySeen) → CommandsAgree s P self.now → list_all (is_done P) s.cmds ≡ result }
     {
         self.ended == self.rows.as_slice().len()
     }
@@ -101,9 +101,9 @@ impl Commands {
         requires fresh { standing_at place self.old.rows.items ≡ Some Standing.New }
         requires first { IsFirstLeft place self.old.rows.items }
         requires housed { IsHoused place self.old.rows.items (length self.old.waiting.items) }
-        ensures follows { OnOk result ((s : SpecSeen) (P : List EntrySeen) (c : IdSeen) → id_at place self.old.rows.items ≡ Some c → Follows s P self.old → Follows s (entries.Took c ∷ P) self.new) }
+        ensures follows { OnOk result ((s : SpecSeen) (P : List EntrySeen) (c : IdSeen) → id_at place self.old.rows.items ≡ Some c → CommandsAgree s P self.old → CommandsAgree s (entries.Took c ∷ P) self.new) }
         ensures row { OnOk result ((r : _) → slice_get self.old.rows.items place ≡ Some r → self.new.rows.items ≡ slice_set self.old.rows.items place (record r { standing = Standing.Waits; order = length self.old.taken.items })) }
-        ensures same { OnErr result ((s : SpecSeen) (P : List EntrySeen) → Follows s P self.old → Follows s P self.new) }
+        ensures same { OnErr result ((s : SpecSeen) (P : List EntrySeen) → CommandsAgree s P self.old → CommandsAgree s P self.new) }
     {
         let row = self.row(place);
         let order = self.taken.as_slice().len();
@@ -129,7 +129,7 @@ impl Commands {
     pub fn refuse(&mut self, place: usize)
         requires fresh { standing_at place self.old.rows.items ≡ Some Standing.New }
         requires first { IsFirstLeft place self.old.rows.items }
-        ensures follows { (s : SpecSeen) (P : List EntrySeen) (c : IdSeen) (a : AnswerSeen) → id_at place self.old.rows.items ≡ Some c → Follows s P self.old → Follows s (entries.Told c a ∷ P) self.new }
+        ensures follows { (s : SpecSeen) (P : List EntrySeen) (c : IdSeen) (a : AnswerSeen) → id_at place self.old.rows.items ≡ Some c → CommandsAgree s P self.old → CommandsAgree s (entries.Told c a ∷ P) self.new }
         ensures row { (r : _) → slice_get self.old.rows.items place ≡ Some r → self.new.rows.items ≡ slice_set self.old.rows.items place (record r { standing = Standing.Ended }) }
     {
         let row = self.row(place);
@@ -159,7 +159,7 @@ impl Commands {
     pub fn send(&mut self, place: usize, n: Attempt, tag: Tag)
         requires waits { standing_at place self.old.rows.items ≡ Some Standing.Waits }
         requires housed { IsHoused place self.old.rows.items (length self.old.waiting.items) }
-        ensures follows { (s : SpecSeen) (P : List EntrySeen) (c : IdSeen) → id_at place self.old.rows.items ≡ Some c → Follows s P self.old → Follows s (entries.Sent c n tag ∷ P) self.new }
+        ensures follows { (s : SpecSeen) (P : List EntrySeen) (c : IdSeen) → id_at place self.old.rows.items ≡ Some c → CommandsAgree s P self.old → CommandsAgree s (entries.Sent c n tag ∷ P) self.new }
         ensures row { (r : _) → slice_get self.old.rows.items place ≡ Some r → self.new.rows.items ≡ slice_set self.old.rows.items place (record r { standing = Standing.Busy n tag }) }
     {
         let row = self.row(place);
@@ -199,9 +199,9 @@ impl Commands {
         requires busy { IsBusyAt place self.old.rows.items }
         requires housed { IsHoused place self.old.rows.items (length self.old.waiting.items) }
         requires few { counted ≡ true → (r : _) → slice_get self.old.rows.items place ≡ Some r → r.retries < 255 }
-        ensures follows { OnOk result ((s : SpecSeen) (P : List EntrySeen) (c : IdSeen) → id_at place self.old.rows.items ≡ Some c → Follows s P self.old → Follows s (entries.Again c counted ∷ P) self.new) }
+        ensures follows { OnOk result ((s : SpecSeen) (P : List EntrySeen) (c : IdSeen) → id_at place self.old.rows.items ≡ Some c → CommandsAgree s P self.old → CommandsAgree s (entries.Again c counted ∷ P) self.new) }
         ensures row { OnOk result ((r : _) → slice_get self.old.rows.items place ≡ Some r → self.new.rows.items ≡ slice_set self.old.rows.items place (record r { standing = Standing.Waits; retries = if counted then r.retries + 1 else r.retries })) }
-        ensures same { OnErr result ((s : SpecSeen) (P : List EntrySeen) → Follows s P self.old → Follows s P self.new) }
+        ensures same { OnErr result ((s : SpecSeen) (P : List EntrySeen) → CommandsAgree s P self.old → CommandsAgree s P self.new) }
     {
         let row = self.row(place);
         put(&mut self.waiting, row.device, row.order)?;
@@ -220,7 +220,7 @@ impl Commands {
     pub fn tell(&mut self, place: usize)
         requires open { IsOpenAt place self.old.rows.items }
         requires housed { IsHoused place self.old.rows.items (length self.old.waiting.items) }
-        ensures follows { (s : SpecSeen) (P : List EntrySeen) (c : IdSeen) (a : AnswerSeen) → id_at place self.old.rows.items ≡ Some c → Follows s P self.old → Follows s (entries.Told c a ∷ P) self.new }
+        ensures follows { (s : SpecSeen) (P : List EntrySeen) (c : IdSeen) (a : AnswerSeen) → id_at place self.old.rows.items ≡ Some c → CommandsAgree s P self.old → CommandsAgree s (entries.Told c a ∷ P) self.new }
         ensures row { (r : _) → slice_get self.old.rows.items place ≡ Some r → self.new.rows.items ≡ slice_set self.old.rows.items place (record r { standing = Standing.Ended }) }
     {
         let row = self.row(place);

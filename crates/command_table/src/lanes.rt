@@ -1,6 +1,6 @@
 ghost use Rattle.std.specs.Prelude.{◌≡◌, ◌<◌, ◌≤◌, ℕ, false, Some, IfOk, length, slice_get};
 ghost use Rattle.command_table.specs.Rows.{is_left, first_left};
-ghost use Rattle.command_table.specs.Follows.{ArePointed};
+ghost use Rattle.command_table.specs.CommandsAgree.{ArePointed};
 
 use crate::rows::CommandRow;
 use mid_base::{LaneNo, NoMemory};

@@ -1,7 +1,7 @@
 //! The table of a host's commands: where each one stands, its retries, which of each lane comes next, and in which order
 //! they were taken.
 //!
-//! It is tied to the journal by one relation, `Follows`. Each call says for which entry it keeps the relation; none looks at
+//! It is tied to the journal by one relation, `CommandsAgree`. Each call says for which entry it keeps the relation; none looks at
 //! all commands.
 #![tactic(auto)]
 

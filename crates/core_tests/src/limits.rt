@@ -1,7 +1,7 @@
 ghost use Rattle.std.specs.Prelude.{◌≡◌, ◌↔◌, ◌==◌, IsTrue};
 ghost use Rattle.std.specs.List.{list_any, list_all};
 ghost use Rattle.mid_base.specs.Address.{has_dev};
-ghost use Rattle.mid_base.specs.Limits.{KeepsLimits, is_between, is_address, is_lun, is_command, is_fault, is_planned, differ_in_address, differ_in_id};
+ghost use Rattle.mid_base.specs.Limits.{KeepsLimits, is_between, is_address, is_lun, is_command, has_block, is_fault, is_planned, differ_in_address, differ_in_id};
 
 use mid_base::{CmdId, CmdSpec, DevAddr, Fault, HostSpec, LunSpec, PlanEntry, same_dev};
 
@@ -45,6 +45,14 @@ fn is_command(luns: &[LunSpec], k: &CmdSpec) -> bool
         && k.lane.0 <= 63
         && is_between(1, 10000, k.timeout)
         && k.allowed <= 20
+        && has_block(k)
+}
+
+fn has_block(k: &CmdSpec) -> bool
+    ensures { result ≡ has_block k.now }
+{
+    let length = k.cdb.as_slice().len();
+    1 <= length && length <= 16
 }
 
 fn is_fault(fault: Fault) -> bool

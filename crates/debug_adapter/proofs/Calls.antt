@@ -18,7 +18,7 @@ use Rattle.mid_base.specs.declared.entries.Entry.{Entry}
 use Rattle.mid_base.specs.declared.entries.Entry.TheVariants.{Due, Aborted, Act}
 use Rattle.mid_base.specs.Past.{sent_for}
 use Rattle.mid_base.specs.Address.{same_dev, in_scope, has_dev}
-use Rattle.mid_base.specs.Callbacks.{has_level}
+use Rattle.mid_base.specs.Levels.{has_level}
 use Rattle.host_template.specs.Standing.{Before}
 use Rattle.host_template.specs.declared.says.TimerSay.{TimerSay}
 use Rattle.host_template.specs.declared.says.TimerSay.TheVariants.{Done, ResetTimer, NotHandled}
@@ -30,7 +30,7 @@ use Rattle.fault_plan.specs.declared.class.Class.TheVariants.{Queue, Timer, Abor
 use Rattle.fault_plan.specs.Plan.{planned, class_of, same_class, is_hit, hits}
 use Rattle.adapter_tables.specs.declared.held.Held.{Held}
 use Rattle.adapter_tables.specs.declared.counts.CountRow.{CountRow}
-use Rattle.adapter_tables.specs.declared.unit_row.UnitRow.{UnitRow}
+use Rattle.adapter_tables.specs.declared.device_rows.UnitRow.{UnitRow}
 use Rattle.adapter_tables.specs.Counted.{counts, counted, hit, hit_at, any_hit, device_of}
 use Rattle.adapter_tables.specs.Held.{held, without, is_attempt, due_from, lets_go, is_reset}
 use Rattle.adapter_tables.specs.Units.{unit}

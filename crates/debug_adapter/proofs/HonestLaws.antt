@@ -25,7 +25,7 @@ use Rattle.host_template.specs.Meaning.{Holds, IsFree, NothingAdded, SameMeaning
 use Rattle.fault_plan.specs.declared.class.Class.{Class}
 use Rattle.adapter_tables.specs.declared.held.Held.{Held}
 use Rattle.adapter_tables.specs.declared.counts.CountRow.{CountRow}
-use Rattle.adapter_tables.specs.declared.unit_row.UnitRow.{UnitRow}
+use Rattle.adapter_tables.specs.declared.device_rows.UnitRow.{UnitRow}
 use Rattle.adapter_tables.specs.Held.{is_attempt, due_from, is_due}
 use Rattle.adapter_tables.specs.Tests.{passes}
 use Rattle.adapter_tables.specs.Ties.{IsKept, IsLeast, WereKept, any_due}

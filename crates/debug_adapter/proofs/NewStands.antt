@@ -7,7 +7,7 @@ use Rattle.mid_base.specs.declared.host_spec.HostSpec.{HostSpec}
 use Rattle.mid_base.specs.Limits.{KeepsLimits}
 use Rattle.adapter_tables.specs.declared.held.Held.{Held}
 use Rattle.adapter_tables.specs.declared.counts.CountRow.{CountRow}
-use Rattle.adapter_tables.specs.declared.unit_row.UnitRow.{UnitRow}
+use Rattle.adapter_tables.specs.declared.device_rows.UnitRow.{UnitRow}
 use Rattle.adapter_tables.specs.Counted.{counted_before}
 use Rattle.adapter_tables.specs.Ties.{IsKept, NewUnits, RowsAre, new_row}
 use Rattle.adapter_tables.proofs.NewLaws.{limits_within, new_rows_are, new_units_are}

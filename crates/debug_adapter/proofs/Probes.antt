@@ -19,7 +19,8 @@ use Rattle.mid_base.specs.Bytes.{sense_list}
 use Rattle.mid_base.specs.Address.{same_dev, in_scope, has_dev}
 use Rattle.sense_data.specs.Grammar.{is_valid_sense}
 use Rattle.host_template.specs.Standing.{Before}
-use Rattle.host_template.specs.Probes.{request_sense, taken}
+use Rattle.mid_base.specs.Codes.{request_sense}
+use Rattle.host_template.specs.Probes.{taken}
 use Rattle.host_template.specs.Calls.{fetched, StandsProbed}
 use Rattle.fault_plan.specs.declared.class.Class.{Class}
 use Rattle.fault_plan.specs.declared.class.Class.TheVariants.{Abort, Probe as Probing}
@@ -28,7 +29,7 @@ use Rattle.debug_lun.specs.Units.{LogicalUnit, Reply, reply_of, unit_of}
 use Rattle.debug_lun.specs.Serving.{Served}
 use Rattle.adapter_tables.specs.declared.held.Held.{Held}
 use Rattle.adapter_tables.specs.declared.counts.CountRow.{CountRow}
-use Rattle.adapter_tables.specs.declared.unit_row.UnitRow.{UnitRow}
+use Rattle.adapter_tables.specs.declared.device_rows.UnitRow.{UnitRow}
 use Rattle.adapter_tables.specs.Counted.{counts, counted, hit, device_of}
 use Rattle.adapter_tables.specs.Units.{unit, target_luns, probed, served_pair, probe_gives, reply_in, data_in, reply_said, is_good_reply}
 use Rattle.adapter_tables.specs.Ties.{count_of, counted_row, has_unit, RowsAre, UnitsAre, ServedAt}

@@ -30,7 +30,7 @@ use Rattle.fault_plan.specs.Plan.{planned}
 use Rattle.debug_lun.specs.Units.{LogicalUnit, Reply, reply_of, unit_of}
 use Rattle.adapter_tables.specs.declared.held.Held.{Held}
 use Rattle.adapter_tables.specs.declared.counts.CountRow.{CountRow}
-use Rattle.adapter_tables.specs.declared.unit_row.UnitRow.{UnitRow}
+use Rattle.adapter_tables.specs.declared.device_rows.UnitRow.{UnitRow}
 use Rattle.adapter_tables.specs.Counted.{counts, counted, hit, hit_at, device_of}
 use Rattle.adapter_tables.specs.Held.{held, sent_as, due_tick, is_attempt, IsNext, precedes, precedes_held}
 use Rattle.adapter_tables.specs.Units.{unit, target_luns, outcome, after_answer}

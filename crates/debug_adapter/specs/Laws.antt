@@ -15,7 +15,7 @@ use Rattle.mid_base.specs.declared.entries.Entry.{Entry}
 use Rattle.mid_base.specs.declared.entries.Entry.TheVariants.{Sent, Bounced, Ready, Due, Longer, DoneSaid, Aborted, Sensed, Act, Probe, Tick}
 use Rattle.mid_base.specs.Past.{ticks}
 use Rattle.mid_base.specs.Address.{same_dev}
-use Rattle.mid_base.specs.Callbacks.{has_level}
+use Rattle.mid_base.specs.Levels.{has_level}
 use Rattle.host_template.specs.Standing.{Before, earlier, probes}
 use Rattle.host_template.specs.Laws.{IsSilent, SilentLaw, TickLaw, ScanLaw, OnlyScans}
 use Rattle.fault_plan.specs.declared.class.Class.{Class}
@@ -23,7 +23,7 @@ use Rattle.fault_plan.specs.declared.class.Class.TheVariants.{Queue, Abort, Rese
 use Rattle.debug_lun.specs.Units.{LogicalUnit}
 use Rattle.adapter_tables.specs.declared.held.Held.{Held}
 use Rattle.adapter_tables.specs.declared.counts.CountRow.{CountRow}
-use Rattle.adapter_tables.specs.declared.unit_row.UnitRow.{UnitRow}
+use Rattle.adapter_tables.specs.declared.device_rows.UnitRow.{UnitRow}
 use Rattle.adapter_tables.specs.Counted.{counts, counted, counted_before}
 use Rattle.adapter_tables.specs.Held.{held, is_attempt, lets_go, is_reset, is_due, is_due_held}
 use Rattle.adapter_tables.specs.Tests.{passes}

@@ -14,8 +14,8 @@ use Rattle.mid_base.specs.declared.entries.Entry.{Entry}
 use Rattle.mid_base.specs.declared.entries.Entry.TheVariants.{Sent, Bounced, Ready, Due, Longer, DoneSaid, Aborted, Sensed, Act, Probe, Tick}
 use Rattle.mid_base.specs.Past.{ticks, sent_for}
 use Rattle.mid_base.specs.Bytes.{sense_list}
-use Rattle.mid_base.specs.Callbacks.{has_level}
-use Rattle.host_template.specs.Probes.{request_sense}
+use Rattle.mid_base.specs.Levels.{has_level}
+use Rattle.mid_base.specs.Codes.{request_sense}
 use Rattle.host_template.specs.Standing.{Before}
 use Rattle.fault_plan.specs.declared.class.Class.{Class}
 use Rattle.fault_plan.specs.declared.class.Class.TheVariants.{Queue, Timer, Abort, ResetDevice, ResetTarget, ResetBus, ResetHost}

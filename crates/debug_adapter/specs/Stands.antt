@@ -10,7 +10,7 @@ use Rattle.host_template.specs.declared.says.TimerSay.{TimerSay}
 use Rattle.host_template.specs.declared.says.TimerSay.TheVariants.{Done}
 use Rattle.adapter_tables.specs.declared.held.Held.{Held}
 use Rattle.adapter_tables.specs.declared.counts.CountRow.{CountRow}
-use Rattle.adapter_tables.specs.declared.unit_row.UnitRow.{UnitRow}
+use Rattle.adapter_tables.specs.declared.device_rows.UnitRow.{UnitRow}
 use Rattle.adapter_tables.specs.Counted.{counted}
 use Rattle.adapter_tables.specs.Held.{held, due_from}
 use Rattle.adapter_tables.specs.Units.{unit}

@@ -1,5 +1,5 @@
 -- The command in a block, and the kinds of commands that the rules of a logical unit speak of.
-use Rattle.std.specs.Prelude.{ℕ, ◌==◌, ◌||◌, List, drop, slice_index, Option, Some, None, Result, Ok, Err, Bool, true, false, if◌then◌else◌}
+use Rattle.std.specs.Prelude.{ℕ, ◌*◌, ◌==◌, ◌&&◌, ◌||◌, not, nat_lt, List, drop, slice_index, Option, Some, None, Result, Ok, Err, Bool, true, false, if◌then◌else◌}
 use Rattle.byteorder.specs.Endian.{big_number}
 use Rattle.cdb_codec.specs.declared.cdb.Cdb.{Cdb}
 use Rattle.cdb_codec.specs.declared.cdb.Cdb.TheVariants.{TestUnitReady, RequestSense, Read6, Write6, Inquiry, StartStop, ReadCapacity10, Read10, Write10, SyncCache10, Read16, Write16, ReportLuns}
@@ -102,3 +102,16 @@ block_count (SyncCache10 flags lba group len control) = len
 block_count (Read16 flags lba len group control) = len
 block_count (Write16 flags lba len group control) = len
 block_count _ = 0
+
+-- the bytes at the front of the data-out that a command looks at: those of a write's blocks, and none of a write that is for
+-- more than 256
+abbrev pub needed_by : Cdb → ℕ
+needed_by c = if is_write c && not (nat_lt 256 (block_count c)) then 512 * block_count c else 0
+
+abbrev pub needed_for : Result Cdb Sense → ℕ
+needed_for (Err s) = 0
+needed_for (Ok c) = needed_by c
+
+-- those that the command of a block looks at
+unfoldable pub data_needed : List ℕ → ℕ
+data_needed b = needed_for (read_command b)

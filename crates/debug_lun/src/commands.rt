@@ -1,9 +1,11 @@
-ghost use Rattle.std.specs.Prelude.{◌≡◌, ◌<◌, IfErr};
+ghost use Rattle.std.specs.Prelude.{◌≡◌, ◌<◌, ◌≤◌, IfErr};
 ghost use Rattle.mid_base.specs.Bytes.{cdb_list};
-ghost use Rattle.debug_lun.specs.Commands.{read_command as read_command_of, passes_attention as passes, needs_start as needs, is_read as reads, is_write as writes, first_block as first_of, block_count as count_of, short_count as count_of_short, fault_sense as sense_of_fault};
+ghost use Rattle.debug_lun.specs.Commands.{read_command as read_command_of, passes_attention as passes, needs_start as needs, is_read as reads, is_write as writes, first_block as first_of, block_count as count_of, short_count as count_of_short, fault_sense as sense_of_fault, needed_by as needed, data_needed as bytes_needed};
 
 use crate::Sense;
+use crate::refusals::MOST_BLOCKS;
 use crate::sense_code::sense_with;
+use block_store::BLOCK_SIZE;
 use cdb_codec::{Cdb, CdbFault, decode};
 use mid_base::CdbBytes;
 use sense_data::{ILLEGAL_REQUEST, INVALID_COMMAND_OPERATION_CODE, INVALID_FIELD_IN_CDB};
@@ -103,4 +105,29 @@ fn short_count(len: u8) -> u32
     ensures { result ≡ count_of_short len }
 {
     if len == 0 { 256 } else { u32::from(len) }
+}
+
+fn needed_by(c: &Cdb) -> usize
+    ensures needed { result ≡ needed c.now }
+    ensures few { result ≤ 131072 }
+{
+    let count = block_count(c);
+    if is_write(c) && count <= MOST_BLOCKS {
+        count as usize * BLOCK_SIZE
+    } else {
+        0
+    }
+}
+
+/// How many bytes at the front of the data-out a command looks at: those of a write's blocks, at most 131,072, and none where
+/// it is another command.
+#[tactic(auto, unfolding(crate::specs::Commands::data_needed))]
+pub fn data_needed(cdb: &CdbBytes) -> usize
+    ensures needed { result ≡ bytes_needed (cdb_list cdb.now) }
+    ensures few { result ≤ 131072 }
+{
+    match read_command(cdb) {
+        Ok(command) => needed_by(&command),
+        Err(_) => 0,
+    }
 }

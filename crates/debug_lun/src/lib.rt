@@ -18,6 +18,9 @@ mod states;
 #[cfg(test)]
 mod tests;
 
-pub use laws::{answers_tell_their_data, spelled_commands_are_read};
+pub use commands::data_needed;
+pub use laws::{
+    answers_tell_their_data, commands_look_at_what_they_need, spelled_commands_are_read,
+};
 pub use lun::DebugLun;
 pub use sense_code::Sense;

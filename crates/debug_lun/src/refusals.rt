@@ -13,7 +13,7 @@ use sense_data::{
 };
 
 // The most blocks that one command moves.
-const MOST_BLOCKS: u32 = 256;
+pub(crate) const MOST_BLOCKS: u32 = 256;
 
 // INQUIRY for a page that there isn't, or for a page without EVPD; REPORT LUNS for a SELECT REPORT above 02h (SPC-4).
 fn is_unknown_page(c: &Cdb) -> bool

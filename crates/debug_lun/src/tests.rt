@@ -1,7 +1,7 @@
 ghost use Rattle.std.specs.Prelude.{◌<◌, ◌≡◌, ◌&&◌, true};
 ghost use Rattle.mid_base.specs.Limits.{is_lun};
 
-use crate::DebugLun;
+use crate::{DebugLun, data_needed};
 use mid_base::{
     Answer, CHECK_CONDITION, CdbBytes, DID_OK, DevAddr, DeviceState, GOOD, LunSpec, SenseBytes,
 };
@@ -389,4 +389,28 @@ fn a_refusal_has_fixed_sense_and_moves_nothing(rt: HostRuntime) -> Result<(), Fa
     };
     assert!(rt; unit.exec(&cdb, &[0], &mut buffer) == Ok(want));
     Ok(())
+}
+
+#[test]
+fn a_write_looks_at_the_data_of_its_blocks(rt: HostRuntime) {
+    let cdb = CdbBytes::from_slice(&[0x2a, 0, 0, 0, 0, 0, 0, 0, 3, 0]);
+    assert_eq!(rt; data_needed(&cdb), 1536);
+}
+
+#[test]
+fn a_write_of_length_0_looks_at_256_blocks(rt: HostRuntime) {
+    let cdb = CdbBytes::from_slice(&[0x0a, 0, 0, 0, 0, 0]);
+    assert_eq!(rt; data_needed(&cdb), 131_072);
+}
+
+#[test]
+fn a_write_of_too_many_blocks_looks_at_no_data(rt: HostRuntime) {
+    let cdb = CdbBytes::from_slice(&[0x2a, 0, 0, 0, 0, 0, 0, 1, 1, 0]);
+    assert_eq!(rt; data_needed(&cdb), 0);
+}
+
+#[test]
+fn a_read_looks_at_no_data(rt: HostRuntime) {
+    let cdb = CdbBytes::from_slice(&[0x28, 0, 0, 0, 0, 0, 0, 0, 3, 0]);
+    assert_eq!(rt; data_needed(&cdb), 0);
 }

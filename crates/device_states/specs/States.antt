@@ -2,13 +2,13 @@
 -- name them). The pairs are this project's own, in outline after Linux.
 use Rattle.std.specs.Prelude.{Bool, true, false, if◌then◌else◌, Result, Ok, Err}
 use Rattle.mid_base.specs.declared.states.DeviceState.{DeviceState}
-use Rattle.mid_base.specs.declared.states.DeviceState.TheVariants.{Created, Running, Quiesce, Block, Offline as Gone, Cancel, Del}
+use Rattle.mid_base.specs.declared.states.DeviceState.TheVariants.{Created, Running, Quiesce, Block, Offline, Cancel, Del}
 use Rattle.mid_base.specs.declared.states.HostState.{HostState}
 use Rattle.mid_base.specs.declared.states.HostState.TheVariants as host
 use Rattle.device_states.specs.declared.tables.Illegal.{Illegal}
 
 abbrev pub is_online_state : DeviceState → Bool
-is_online_state Gone = false
+is_online_state Offline = false
 is_online_state Cancel = false
 is_online_state Del = false
 is_online_state _ = true
@@ -18,7 +18,7 @@ same_state Created Created = true
 same_state Running Running = true
 same_state Quiesce Quiesce = true
 same_state Block Block = true
-same_state Gone Gone = true
+same_state Offline Offline = true
 same_state Cancel Cancel = true
 same_state Del Del = true
 same_state _ _ = false
@@ -36,20 +36,20 @@ is_closed _ = false
 -- the pairs of states that a device may go through: from, to
 abbrev pub may_become : DeviceState → DeviceState → Bool
 may_become Created Running = true
-may_become Gone Running = true
+may_become Offline Running = true
 may_become Quiesce Running = true
 may_become Block Running = true
 may_become Running Quiesce = true
 may_become Running Block = true
-may_become Created Gone = true
-may_become Running Gone = true
-may_become Quiesce Gone = true
-may_become Block Gone = true
+may_become Created Offline = true
+may_become Running Offline = true
+may_become Quiesce Offline = true
+may_become Block Offline = true
 may_become Created Cancel = true
 may_become Running Cancel = true
 may_become Quiesce Cancel = true
 may_become Block Cancel = true
-may_become Gone Cancel = true
+may_become Offline Cancel = true
 may_become Created Del = true
 may_become Cancel Del = true
 may_become _ _ = false

@@ -22,11 +22,13 @@ use Rattle.device_states.specs.States.{is_online_state, is_running}
 use Rattle.trace_model.specs.Names.{depth_in}
 use Rattle.trace_model.specs.Attempts.{answer}
 use Rattle.trace_model.specs.Devices.{state, is_online}
-use Rattle.trace_model.specs.Sending.{Depth, after_full, after_good, after_answer, depths, is_ready, held, held_of, depth, host_paused}
+use Rattle.mid_base.specs.Depths.{Depth, after_full, after_good}
+use Rattle.trace_model.specs.Counts.{busy_count, busy_on}
+use Rattle.trace_model.specs.Sending.{after_answer, depths, is_ready, depth, host_paused}
 use Rattle.device_table.specs.declared.rows.DeviceRow.{DeviceRow}
 use Rattle.device_table.specs.declared.devices.Devices.{Devices}
 use Rattle.device_table.specs.Rows.{dev_at}
-use Rattle.device_table.specs.Keeps.{TagsAre, DepthIs, Keeps, IsOf, takes}
+use Rattle.device_table.specs.DevicesAgree.{TagsAre, DepthIs, DevicesAgree, IsOf, takes}
 use Rattle.device_table.proofs.Tags.{tags_alike}
 use Rattle.device_table.proofs.Places.{same_self, apart_rows}
 use Rattle.device_table.proofs.Entries.{dev_is}
@@ -43,10 +45,10 @@ tags_same s P old new same tags = record {
   all = ap all_out same ∙ tags.all;
 }
 
-pub keeps_judged : (s : HostSpec) (P : List Entry) (old new : Devices) (c : CmdId) (i : ℕ) (k : Keeps s P old) (of : IsOf s old c i) (n : Attempt) (d : Disp) (a : Answer) (g : DeviceDepth → DeviceDepth)
+pub keeps_judged : (s : HostSpec) (P : List Entry) (old new : Devices) (c : CmdId) (i : ℕ) (k : DevicesAgree s P old) (of : IsOf s old c i) (n : Attempt) (d : Disp) (a : Answer) (g : DeviceDepth → DeviceDepth)
     → answer n.0 P ≡ Some a → new.rows.items ≡ old.rows.items → new.paused ≡ old.paused → new.pool.tags ≡ old.pool.tags → Changes of.row.dev g old.pool.devices new.pool.devices
     → g (kept_at s of.row.dev (depths s of.row.dev P)) ≡ kept_at s of.row.dev (after_answer s P of.row.dev (Some a) (depths s of.row.dev P))
-    → Keeps s (entry.Judged c n d ∷ P) new
+    → DevicesAgree s (entry.Judged c n d ∷ P) new
 keeps_judged s P old new c i k of n d a g told rows paused tags changes becomes = record {
   rows_are = rw rows k.rows_are;
   apart = k.apart;
@@ -84,22 +86,22 @@ keeps_judged s P old new c i k of n d a g told rows paused tags changes becomes 
     ]
 
 -- the pool's room is the rule's
-room_is : (s : HostSpec) (P : List Entry) (t : Devices) (i : ℕ) (r : DeviceRow) → Keeps s P t → slice_get t.rows.items i ≡ Some r
-    → has_room t.pool.tags r.dev (depth_of r.dev t.pool.devices) ≡ nat_lt (held s P) s.can_queue && nat_lt (held_of s P r.dev) (depth s P r.dev)
+room_is : (s : HostSpec) (P : List Entry) (t : Devices) (i : ℕ) (r : DeviceRow) → DevicesAgree s P t → slice_get t.rows.items i ≡ Some r
+    → has_room t.pool.tags r.dev (depth_of r.dev t.pool.devices) ≡ nat_lt (busy_count s P) s.can_queue && nat_lt (busy_on s P r.dev) (depth s P r.dev)
 room_is s P t i r k at =
     let deep : depth_of r.dev t.pool.devices ≡ depth s P r.dev = ap (λ (o : Option DeviceDepth). unwrap_or (option_map (λ x. x.depth) o) 0) (k.depths_are i r at) in
     ap (λ (n : ℕ). nat_lt n (length t.pool.tags) && nat_lt (out_of r.dev t.pool.tags) (depth_of r.dev t.pool.devices)) k.tags.all
-    ∙ ap (λ (n : ℕ). nat_lt (held s P) n && nat_lt (out_of r.dev t.pool.tags) (depth_of r.dev t.pool.devices)) k.tags.count
-    ∙ ap (λ (n : ℕ). nat_lt (held s P) s.can_queue && nat_lt n (depth_of r.dev t.pool.devices)) (k.tags.of_each r.dev)
-    ∙ ap (λ (n : ℕ). nat_lt (held s P) s.can_queue && nat_lt (held_of s P r.dev) n) deep
+    ∙ ap (λ (n : ℕ). nat_lt (busy_count s P) n && nat_lt (out_of r.dev t.pool.tags) (depth_of r.dev t.pool.devices)) k.tags.count
+    ∙ ap (λ (n : ℕ). nat_lt (busy_count s P) s.can_queue && nat_lt n (depth_of r.dev t.pool.devices)) (k.tags.of_each r.dev)
+    ∙ ap (λ (n : ℕ). nat_lt (busy_count s P) s.can_queue && nat_lt (busy_on s P r.dev) n) deep
 
-pub takes_is : (s : HostSpec) (P : List Entry) (t : Devices) (i : ℕ) (r : DeviceRow) → Keeps s P t → slice_get t.rows.items i ≡ Some r → takes t r ≡ is_ready s P r.dev
+pub takes_is : (s : HostSpec) (P : List Entry) (t : Devices) (i : ℕ) (r : DeviceRow) → DevicesAgree s P t → slice_get t.rows.items i ≡ Some r → takes t r ≡ is_ready s P r.dev
 takes_is s P t i r k at =
     ap (λ (b : Bool). is_running r.state && not t.paused && not r.paused && b) (room_is s P t i r k at)
-    ∙ five (is_running r.state) (not t.paused) (not r.paused) (nat_lt (held s P) s.can_queue) (nat_lt (held_of s P r.dev) (depth s P r.dev))
-    ∙ ap (λ (x : DeviceState). is_running x && not t.paused && not r.paused && nat_lt (held s P) s.can_queue && nat_lt (held_of s P r.dev) (depth s P r.dev)) (sym (k.states i r at))
-    ∙ ap (λ (b : Bool). is_running (state s r.dev P) && not b && not r.paused && nat_lt (held s P) s.can_queue && nat_lt (held_of s P r.dev) (depth s P r.dev)) (sym k.host)
-    ∙ ap (λ (b : Bool). is_running (state s r.dev P) && not (host_paused P) && not b && nat_lt (held s P) s.can_queue && nat_lt (held_of s P r.dev) (depth s P r.dev)) (sym (k.pauses i r at))
+    ∙ five (is_running r.state) (not t.paused) (not r.paused) (nat_lt (busy_count s P) s.can_queue) (nat_lt (busy_on s P r.dev) (depth s P r.dev))
+    ∙ ap (λ (x : DeviceState). is_running x && not t.paused && not r.paused && nat_lt (busy_count s P) s.can_queue && nat_lt (busy_on s P r.dev) (depth s P r.dev)) (sym (k.states i r at))
+    ∙ ap (λ (b : Bool). is_running (state s r.dev P) && not b && not r.paused && nat_lt (busy_count s P) s.can_queue && nat_lt (busy_on s P r.dev) (depth s P r.dev)) (sym k.host)
+    ∙ ap (λ (b : Bool). is_running (state s r.dev P) && not (host_paused P) && not b && nat_lt (busy_count s P) s.can_queue && nat_lt (busy_on s P r.dev) (depth s P r.dev)) (sym (k.pauses i r at))
   where
     five : (a b c d e : Bool) → a && b && c && (d && e) ≡ a && b && c && d && e
     five true true true d e = refl
@@ -107,7 +109,7 @@ takes_is s P t i r k at =
     five true false c d e = refl
     five false b c d e = refl
 
-pub goes_is : (s : HostSpec) (P : List Entry) (t : Devices) (i : ℕ) (d : DevAddr) (r : DeviceRow) → Keeps s P t → slice_get t.rows.items i ≡ Some r → dev_at i t.rows.items ≡ Some d
+pub goes_is : (s : HostSpec) (P : List Entry) (t : Devices) (i : ℕ) (d : DevAddr) (r : DeviceRow) → DevicesAgree s P t → slice_get t.rows.items i ≡ Some r → dev_at i t.rows.items ≡ Some d
     → not (is_online_state r.state) || takes t r ≡ not (is_online s d P) || is_ready s P d
 goes_is s P t i d r k at dev =
     let same : r.dev ≡ d = same_Some r.dev d (sym (ap (option_map (λ (x : DeviceRow). x.dev)) at) ∙ dev) in
@@ -115,12 +117,12 @@ goes_is s P t i d r k at dev =
     ∙ ap (λ (x : DeviceState). not (is_online_state x) || is_ready s P r.dev) (sym (k.states i r at))
     ∙ ap (λ (e : DevAddr). not (is_online s e P) || is_ready s P e) same
 
-pub full_becomes : (s : HostSpec) (P : List Entry) (d : DevAddr) (out : ℕ) (a : Answer) (x : Depth) → out ≡ held_of s P d → a.host.0 ≡ 0 → a.status ≡ 40
+pub full_becomes : (s : HostSpec) (P : List Entry) (d : DevAddr) (out : ℕ) (a : Answer) (x : Depth) → out ≡ busy_on s P d → a.host.0 ≡ 0 → a.status ≡ 40
     → fuller out (kept_at s d x) ≡ kept_at s d (after_answer s P d (Some a) x)
 full_becomes s P d out a x same host status =
     let both : (a.host.0 == 0) && (a.status == 40) ≡ true = rw (eq-eqb a.host.0 0 host, eq-eqb a.status 40 status) refl in
     ap (λ (n : ℕ). kept_at s d (after_full n x)) same
-    ∙ ap (λ (b : Bool). kept_at s d (cond b (after_full (held_of s P d) x) (cond (is_good a) (after_good (depth_in s.luns d) x) x))) (sym both)
+    ∙ ap (λ (b : Bool). kept_at s d (cond b (after_full (busy_on s P d) x) (cond (is_good a) (after_good (depth_in s.luns d) x) x))) (sym both)
 
 pub good_becomes : (s : HostSpec) (P : List Entry) (d : DevAddr) (a : Answer) (x : Depth) → a.host.0 ≡ 0 → a.status ≡ 0
     → better (kept_at s d x) ≡ kept_at s d (after_answer s P d (Some a) x)
@@ -128,4 +130,4 @@ good_becomes s P d a x host status =
     let isnt : (a.host.0 == 0) && (a.status == 40) ≡ false = rw (host, status) refl in
     let good : is_good a ≡ true = rw (eq-eqb a.host.0 0 host, eq-eqb a.status 0 status) refl in
     ap (λ (b : Bool). kept_at s d (cond b (after_good (depth_in s.luns d) x) x)) (sym good)
-    ∙ ap (λ (b : Bool). kept_at s d (cond b (after_full (held_of s P d) x) (cond (is_good a) (after_good (depth_in s.luns d) x) x))) (sym isnt)
+    ∙ ap (λ (b : Bool). kept_at s d (cond b (after_full (busy_on s P d) x) (cond (is_good a) (after_good (depth_in s.luns d) x) x))) (sym isnt)

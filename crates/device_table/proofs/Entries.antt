@@ -1,6 +1,6 @@
 -- What each entry changes.
-use Rattle.std.proofs.Common.{◌≡◌, ◌∙◌, sym, ap, subst, refl, ℕ, zero, suc, ◌<◌, ◌==◌, Bool, true, false, ◌||◌, cond, List, [], ◌∷◌, set, map, None, Some, inl, inr}
-use Rattle.std.specs.Prelude.{slice_get}
+use Rattle.std.proofs.Common.{◌≡◌, ◌∙◌, sym, ap, subst, refl, ℕ, zero, suc, ◌<◌, ◌==◌, Bool, true, false, ◌||◌, cond, List, [], ◌∷◌, set, map, Option, None, Some, inl, inr}
+use Rattle.std.specs.Prelude.{slice_get, option_map}
 use Rattle.std.proofs.lemmas.Bool.{cases_Bool, eq-eqb, eqb-true}
 use Rattle.std.proofs.lemmas.Option.{same_Some, none-some}
 use Rattle.mid_base.specs.declared.names.CmdId.{CmdId}
@@ -10,6 +10,7 @@ use Rattle.mid_base.specs.declared.names.Tag.{Tag}
 use Rattle.mid_base.specs.declared.answers.Answer.{Answer}
 use Rattle.mid_base.specs.declared.answers.BusyOf.TheVariants.{Host as HostBusy, Device as DeviceBusy}
 use Rattle.mid_base.specs.declared.states.DeviceState.{DeviceState}
+use Rattle.mid_base.specs.declared.states.DeviceState.TheVariants.{Offline}
 use Rattle.mid_base.specs.declared.entries.Entry.{Entry}
 use Rattle.mid_base.specs.declared.entries.Entry.TheVariants as entry
 use Rattle.mid_base.specs.declared.host_spec.CmdSpec.{CmdSpec}
@@ -26,25 +27,25 @@ use Rattle.trace_model.specs.Devices.{state}
 use Rattle.trace_model.specs.Sending.{host_paused, dev_paused}
 use Rattle.device_table.specs.declared.rows.DeviceRow.{DeviceRow}
 use Rattle.device_table.specs.declared.devices.Devices.{Devices}
-use Rattle.device_table.specs.Rows.{AreFor, unpaused}
-use Rattle.device_table.specs.Keeps.{TagsAre, StateIs, PauseIs, DepthIs, Keeps, IsOf, HoldsAlone, IsApart}
+use Rattle.device_table.specs.Rows.{AreFor, dev_at, unpaused}
+use Rattle.device_table.specs.DevicesAgree.{TagsAre, StateIs, PauseIs, DepthIs, DevicesAgree, IsOf, HoldsAlone, IsApart}
 use Rattle.device_table.proofs.Counts.{find_one}
 use Rattle.device_table.proofs.Tags.{Restood, tags_sent, tags_given, tags_alike, idle_holds}
 use Rattle.device_table.proofs.Places.{same_self, after_write, apart_rows, for_set, for_map}
 
 -- the spec's command, and its device
-pub command_is : (s : HostSpec) (P : List Entry) (t : Devices) (c : CmdId) (i : ℕ) → Keeps s P t → (of : IsOf s t c i) → command s c.0 ≡ of.command
+pub command_is : (s : HostSpec) (P : List Entry) (t : Devices) (c : CmdId) (i : ℕ) → DevicesAgree s P t → (of : IsOf s t c i) → command s c.0 ≡ of.command
 command_is s P t c i k of =
     ap or_no_command
     (find_one (λ j. j.id.0 == c.0) s.cmds k.ids of.place of.command of.at
     (λ m j at apart. ap (λ (x : CmdId). j.id.0 == x.0) (sym of.id) ∙ apart)
     (eq-eqb of.command.id.0 c.0 (ap (λ (x : CmdId). x.0) of.id)))
 
-pub dev_is : (s : HostSpec) (P : List Entry) (t : Devices) (c : CmdId) (i : ℕ) → Keeps s P t → (of : IsOf s t c i) → dev_of s c.0 ≡ of.row.dev
+pub dev_is : (s : HostSpec) (P : List Entry) (t : Devices) (c : CmdId) (i : ℕ) → DevicesAgree s P t → (of : IsOf s t c i) → dev_of s c.0 ≡ of.row.dev
 dev_is s P t c i k of = ap (λ (x : CmdSpec). x.dev) (command_is s P t c i k of) ∙ sym of.dev
 
 -- the command comes to stand elsewhere
-restood : (s : HostSpec) (P Q : List Entry) (t : Devices) (c : CmdId) (i : ℕ) (x : Standing) → Keeps s P t → (of : IsOf s t c i)
+restood : (s : HostSpec) (P Q : List Entry) (t : Devices) (c : CmdId) (i : ℕ) (x : Standing) → DevicesAgree s P t → (of : IsOf s t c i)
     → ((d : ℕ) → standing d Q ≡ cond (c.0 == d) x (standing d P)) → Restood s P Q of.command x
 restood s P Q t c i x k of changed = record {
   ids = k.ids;
@@ -56,13 +57,13 @@ restood s P Q t c i x k of changed = record {
 stands_as : (s : HostSpec) (P : List Entry) (t : Devices) (c : CmdId) (i : ℕ) (of : IsOf s t c i) → standing of.command.id.0 P ≡ standing c.0 P
 stands_as s P t c i of = ap (λ (x : CmdId). standing x.0 P) of.id
 
-module _ (s : HostSpec) (P : List Entry) (old new : Devices) (c : CmdId) (i : ℕ) (k : Keeps s P old) (of : IsOf s old c i) where
+module _ (s : HostSpec) (P : List Entry) (old new : Devices) (c : CmdId) (i : ℕ) (k : DevicesAgree s P old) (of : IsOf s old c i) where
   alone_as : (t : Tag) → HoldsAlone s P c t.0 → (m : ℕ) (j : CmdSpec) → slice_get s.cmds m ≡ Some j → holds t.0 (standing j.id.0 P) ≡ true → j.id.0 ≡ of.command.id.0
   alone_as t alone m j at is = alone m j at is ∙ ap (λ (x : CmdId). x.0) (sym of.id)
 
   pub keeps_sent : (n : Attempt) (t : Tag) → is_busy (standing c.0 P) ≡ false → t.0 < s.can_queue → holder t.0 old.pool.tags ≡ None
       → new.rows.items ≡ old.rows.items → new.paused ≡ old.paused → new.pool.devices ≡ old.pool.devices → new.pool.tags ≡ set old.pool.tags t.0 (Some of.row.dev)
-      → Keeps s (entry.Sent c n t ∷ P) new
+      → DevicesAgree s (entry.Sent c n t ∷ P) new
   keeps_sent n t idle lt free rows paused devices tags = record {
     rows_are = rw rows k.rows_are;
     apart = k.apart;
@@ -78,7 +79,7 @@ module _ (s : HostSpec) (P : List Entry) (old new : Devices) (c : CmdId) (i : �
 
   pub keeps_told : (n : Attempt) (t : Tag) (a : Answer) → standing c.0 P ≡ Busy n t → HoldsAlone s P c t.0 → t.0 < s.can_queue
       → new.rows.items ≡ old.rows.items → new.paused ≡ old.paused → new.pool.devices ≡ old.pool.devices → new.pool.tags ≡ set old.pool.tags t.0 None
-      → Keeps s (entry.Told c a ∷ P) new
+      → DevicesAgree s (entry.Told c a ∷ P) new
   keeps_told n t a was alone lt rows paused devices tags = record {
     rows_are = rw rows k.rows_are;
     apart = k.apart;
@@ -127,7 +128,7 @@ module _ (s : HostSpec) (P : List Entry) (old new : Devices) (c : CmdId) (i : �
     given Q changed =
         tags_given s P Q of.command n t Waits old.pool new.pool (restood s P Q old c i Waits k of changed) (stands_as s P old c i of ∙ was) refl (alone_as t alone) lt tags k.tags
 
-    pub keeps_counted : new.rows.items ≡ old.rows.items → new.paused ≡ old.paused → Keeps s (entry.Again c true ∷ P) new
+    pub keeps_counted : new.rows.items ≡ old.rows.items → new.paused ≡ old.paused → DevicesAgree s (entry.Again c true ∷ P) new
     keeps_counted rows paused = record {
       rows_are = rw rows k.rows_are;
       apart = k.apart;
@@ -139,7 +140,7 @@ module _ (s : HostSpec) (P : List Entry) (old new : Devices) (c : CmdId) (i : �
       tags = given (entry.Again c true ∷ P) (λ d. refl);
     }
 
-    pub keeps_free : new.rows.items ≡ set old.rows.items i (record of.row { paused = true }) → new.paused ≡ old.paused → Keeps s (entry.Again c false ∷ P) new
+    pub keeps_free : new.rows.items ≡ set old.rows.items i (record of.row { paused = true }) → new.paused ≡ old.paused → DevicesAgree s (entry.Again c false ∷ P) new
     keeps_free rows paused = record {
       rows_are = rows_now rows;
       apart = k.apart;
@@ -151,7 +152,7 @@ module _ (s : HostSpec) (P : List Entry) (old new : Devices) (c : CmdId) (i : �
       tags = given (entry.Again c false ∷ P) (λ d. refl);
     }
 
-    pub keeps_host_busy : new.rows.items ≡ old.rows.items → new.paused ≡ true → Keeps s (entry.Bounced c n HostBusy ∷ P) new
+    pub keeps_host_busy : new.rows.items ≡ old.rows.items → new.paused ≡ true → DevicesAgree s (entry.Bounced c n HostBusy ∷ P) new
     keeps_host_busy rows paused = record {
       rows_are = rw rows k.rows_are;
       apart = k.apart;
@@ -163,7 +164,7 @@ module _ (s : HostSpec) (P : List Entry) (old new : Devices) (c : CmdId) (i : �
       tags = given (entry.Bounced c n HostBusy ∷ P) (λ d. refl);
     }
 
-    pub keeps_device_busy : new.rows.items ≡ set old.rows.items i (record of.row { paused = true }) → new.paused ≡ old.paused → Keeps s (entry.Bounced c n DeviceBusy ∷ P) new
+    pub keeps_device_busy : new.rows.items ≡ set old.rows.items i (record of.row { paused = true }) → new.paused ≡ old.paused → DevicesAgree s (entry.Bounced c n DeviceBusy ∷ P) new
     keeps_device_busy rows paused = record {
       rows_are = rows_now rows;
       apart = k.apart;
@@ -194,7 +195,7 @@ idle_now s P Q c x pool ids was is changed tags = tags_alike s P Q pool (λ d. b
       | inr apart ↦ ap (holds t) (changed d) ∙ ap (λ (b : Bool). holds t (cond b x (standing d P))) apart
     ]
 
-pub not_busy_took : (s : HostSpec) (P : List Entry) (t : Devices) (c : CmdId) → is_busy (standing c.0 P) ≡ false → Keeps s P t → Keeps s (entry.Took c ∷ P) t
+pub not_busy_took : (s : HostSpec) (P : List Entry) (t : Devices) (c : CmdId) → is_busy (standing c.0 P) ≡ false → DevicesAgree s P t → DevicesAgree s (entry.Took c ∷ P) t
 not_busy_took s P t c idle k = record {
   rows_are = k.rows_are;
   apart = k.apart;
@@ -206,7 +207,7 @@ not_busy_took s P t c idle k = record {
   tags = idle_now s P (entry.Took c ∷ P) c Waits t.pool k.ids idle refl (λ d. refl) k.tags;
 }
 
-pub not_busy_told : (s : HostSpec) (P : List Entry) (t : Devices) (c : CmdId) (a : Answer) → is_busy (standing c.0 P) ≡ false → Keeps s P t → Keeps s (entry.Told c a ∷ P) t
+pub not_busy_told : (s : HostSpec) (P : List Entry) (t : Devices) (c : CmdId) (a : Answer) → is_busy (standing c.0 P) ≡ false → DevicesAgree s P t → DevicesAgree s (entry.Told c a ∷ P) t
 not_busy_told s P t c a idle k = record {
   rows_are = k.rows_are;
   apart = k.apart;
@@ -220,7 +221,7 @@ not_busy_told s P t c a idle k = record {
 
 -- entries that say nothing of devices
 same_record : (s : HostSpec) (P Q : List Entry) (t : Devices) → ((j : ℕ) (r : DeviceRow) → slice_get t.rows.items j ≡ Some r → StateIs s Q r) → ((j : ℕ) (r : DeviceRow) → slice_get t.rows.items j ≡ Some r → PauseIs s Q r)
-    → ((j : ℕ) (r : DeviceRow) → slice_get t.rows.items j ≡ Some r → DepthIs s Q t.pool r) → host_paused Q ≡ t.paused → TagsAre s Q t.pool → Keeps s P t → Keeps s Q t
+    → ((j : ℕ) (r : DeviceRow) → slice_get t.rows.items j ≡ Some r → DepthIs s Q t.pool r) → host_paused Q ≡ t.paused → TagsAre s Q t.pool → DevicesAgree s P t → DevicesAgree s Q t
 same_record s P Q t states pauses depths_now host tags k = record {
   rows_are = k.rows_are;
   apart = k.apart;
@@ -232,24 +233,46 @@ same_record s P Q t states pauses depths_now host tags k = record {
   tags = tags;
 }
 
-pub keeps_apart : (s : HostSpec) (P : List Entry) (t : Devices) (e : Entry) → IsApart e → Keeps s P t → Keeps s (e ∷ P) t
+pub keeps_apart : (s : HostSpec) (P : List Entry) (t : Devices) (e : Entry) → IsApart e → DevicesAgree s P t → DevicesAgree s (e ∷ P) t
 keeps_apart s P t (entry.Ready n a) apart k = same_record s P (entry.Ready n a ∷ P) t k.states k.pauses k.depths_are k.host (tags_alike s P (entry.Ready n a ∷ P) t.pool (λ d. refl) (λ u d. refl) k.tags) k
 keeps_apart s P t (entry.Owned n by) apart k = same_record s P (entry.Owned n by ∷ P) t k.states k.pauses k.depths_are k.host (tags_alike s P (entry.Owned n by ∷ P) t.pool (λ d. refl) (λ u d. refl) k.tags) k
 keeps_apart s P t (entry.Failed c n x) apart k = same_record s P (entry.Failed c n x ∷ P) t k.states k.pauses k.depths_are k.host (tags_alike s P (entry.Failed c n x ∷ P) t.pool (λ d. refl) (λ u d. refl) k.tags) k
+keeps_apart s P t (entry.Due n) apart k = same_record s P (entry.Due n ∷ P) t k.states k.pauses k.depths_are k.host (tags_alike s P (entry.Due n ∷ P) t.pool (λ d. refl) (λ u d. refl) k.tags) k
+keeps_apart s P t (entry.Longer n) apart k = same_record s P (entry.Longer n ∷ P) t k.states k.pauses k.depths_are k.host (tags_alike s P (entry.Longer n ∷ P) t.pool (λ d. refl) (λ u d. refl) k.tags) k
+keeps_apart s P t (entry.DoneSaid n) apart k = same_record s P (entry.DoneSaid n ∷ P) t k.states k.pauses k.depths_are k.host (tags_alike s P (entry.DoneSaid n ∷ P) t.pool (λ d. refl) (λ u d. refl) k.tags) k
+keeps_apart s P t (entry.Late n) apart k = same_record s P (entry.Late n ∷ P) t k.states k.pauses k.depths_are k.host (tags_alike s P (entry.Late n ∷ P) t.pool (λ d. refl) (λ u d. refl) k.tags) k
+keeps_apart s P t (entry.AbortSet c n) apart k = same_record s P (entry.AbortSet c n ∷ P) t k.states k.pauses k.depths_are k.host (tags_alike s P (entry.AbortSet c n ∷ P) t.pool (λ d. refl) (λ u d. refl) k.tags) k
+keeps_apart s P t (entry.Aborted c n ok) apart k = same_record s P (entry.Aborted c n ok ∷ P) t k.states k.pauses k.depths_are k.host (tags_alike s P (entry.Aborted c n ok ∷ P) t.pool (λ d. refl) (λ u d. refl) k.tags) k
+keeps_apart s P t (entry.Cleared c level) apart k = same_record s P (entry.Cleared c level ∷ P) t k.states k.pauses k.depths_are k.host (tags_alike s P (entry.Cleared c level ∷ P) t.pool (λ d. refl) (λ u d. refl) k.tags) k
+keeps_apart s P t (entry.Sensed c n sense) apart k = same_record s P (entry.Sensed c n sense ∷ P) t k.states k.pauses k.depths_are k.host (tags_alike s P (entry.Sensed c n sense ∷ P) t.pool (λ d. refl) (λ u d. refl) k.tags) k
+keeps_apart s P t entry.EhBegin apart k = same_record s P (entry.EhBegin ∷ P) t k.states k.pauses k.depths_are k.host (tags_alike s P (entry.EhBegin ∷ P) t.pool (λ d. refl) (λ u d. refl) k.tags) k
+keeps_apart s P t entry.EhEnd apart k = same_record s P (entry.EhEnd ∷ P) t k.states k.pauses k.depths_are k.host (tags_alike s P (entry.EhEnd ∷ P) t.pool (λ d. refl) (λ u d. refl) k.tags) k
+keeps_apart s P t (entry.Act level scope ok) apart k = same_record s P (entry.Act level scope ok ∷ P) t k.states k.pauses k.depths_are k.host (tags_alike s P (entry.Act level scope ok ∷ P) t.pool (λ d. refl) (λ u d. refl) k.tags) k
+keeps_apart s P t (entry.Probe d op say) apart k = same_record s P (entry.Probe d op say ∷ P) t k.states k.pauses k.depths_are k.host (tags_alike s P (entry.Probe d op say ∷ P) t.pool (λ d. refl) (λ u d. refl) k.tags) k
 keeps_apart s P t e apart k = absurd apart
 
--- the device at a place goes to a state
-pub keeps_state : (s : HostSpec) (P : List Entry) (old new : Devices) (i : ℕ) (r : DeviceRow) (x : DeviceState) → slice_get old.rows.items i ≡ Some r
-    → new.rows.items ≡ set old.rows.items i (record r { state = x }) → new.paused ≡ old.paused → new.pool ≡ old.pool → Keeps s P old → Keeps s (entry.State r.dev x ∷ P) new
-keeps_state s P old new i r x at rows paused pool k = record {
+-- the row of a device that has a place
+pub dev_row : (rows : List DeviceRow) (i : ℕ) (d : DevAddr) → dev_at i rows ≡ Some d → (r : DeviceRow) × (slice_get rows i ≡ Some r) × (r.dev ≡ d)
+dev_row rows i d is = by_row (slice_get rows i) refl is
+  where
+    by_row : (o : Option DeviceRow) → slice_get rows i ≡ o → option_map (λ (q : DeviceRow). q.dev) o ≡ Some d → (r : DeviceRow) × (slice_get rows i ≡ Some r) × (r.dev ≡ d)
+    by_row None at e = absurd (none-some d e)
+    by_row (Some q) at e = (q, at, same_Some q.dev d e)
+
+-- the device at a place goes to a state, by an entry that says so and says nothing else of devices and tags
+keeps_set : (s : HostSpec) (P Q : List Entry) (old new : Devices) (i : ℕ) (r : DeviceRow) (x : DeviceState) → slice_get old.rows.items i ≡ Some r
+    → new.rows.items ≡ set old.rows.items i (record r { state = x }) → new.paused ≡ old.paused → new.pool ≡ old.pool
+    → ((d : DevAddr) → state s d Q ≡ cond (same_dev r.dev d) x (state s d P)) → ((q : DeviceRow) → PauseIs s P q → PauseIs s Q q)
+    → ((q : DeviceRow) → DepthIs s P old.pool q → DepthIs s Q old.pool q) → host_paused Q ≡ host_paused P → TagsAre s Q old.pool → DevicesAgree s P old → DevicesAgree s Q new
+keeps_set s P Q old new i r x at rows paused pool state_is pause_is depth_is host tags k = record {
   rows_are = rw rows (for_set s.luns old.rows.items k.rows_are i r (record r { state = x }) at refl);
   apart = k.apart;
   ids = k.ids;
   states = λ j q get. states j q (rw rows at get);
-  pauses = λ j q get. other (PauseIs s (entry.State r.dev x ∷ P)) (λ y h. h) k.pauses j q (rw rows at get);
-  depths_are = λ j q get. rw pool (other (DepthIs s (entry.State r.dev x ∷ P) old.pool) (λ y h. h) k.depths_are j q (rw rows at get));
-  host = k.host ∙ sym paused;
-  tags = rw pool (tags_alike s P (entry.State r.dev x ∷ P) old.pool (λ d. refl) (λ u d. refl) k.tags);
+  pauses = λ j q get. other (PauseIs s Q) (λ y h. h) (λ m p there. pause_is p (k.pauses m p there)) j q (rw rows at get);
+  depths_are = λ j q get. rw pool (other (DepthIs s Q old.pool) (λ y h. h) (λ m p there. depth_is p (k.depths_are m p there)) j q (rw rows at get));
+  host = host ∙ k.host ∙ sym paused;
+  tags = rw pool tags;
 }
   where
     other : (A : DeviceRow → Type 0) → ((y : DeviceState) → A r → A (record r { state = y })) → ((j : ℕ) (q : DeviceRow) → slice_get old.rows.items j ≡ Some q → A q)
@@ -259,15 +282,27 @@ keeps_state s P old new i r x at rows paused pool k = record {
       | inr there ↦ all j q there.1
     ]
 
-    states : (j : ℕ) (q : DeviceRow) → slice_get (set old.rows.items i (record r { state = x })) j ≡ Some q → StateIs s (entry.State r.dev x ∷ P) q
-    states j q get = elim (after_write old.rows.items i j r (record r { state = x }) q at get) as (λ _. StateIs s (entry.State r.dev x ∷ P) q) [
-      | inl here ↦ subst (StateIs s (entry.State r.dev x ∷ P)) here.1 (ap (λ (b : Bool). cond b x (state s r.dev P)) (same_self r.dev))
-      | inr there ↦ ap (λ (b : Bool). cond b x (state s q.dev P)) (apart_rows s.luns old.rows.items k.rows_are k.apart i j r q at there.1 there.0) ∙ k.states j q there.1
+    states : (j : ℕ) (q : DeviceRow) → slice_get (set old.rows.items i (record r { state = x })) j ≡ Some q → StateIs s Q q
+    states j q get = elim (after_write old.rows.items i j r (record r { state = x }) q at get) as (λ _. StateIs s Q q) [
+      | inl here ↦ subst (StateIs s Q) here.1 (state_is r.dev ∙ ap (λ (b : Bool). cond b x (state s r.dev P)) (same_self r.dev))
+      | inr there ↦ state_is q.dev ∙ ap (λ (b : Bool). cond b x (state s q.dev P)) (apart_rows s.luns old.rows.items k.rows_are k.apart i j r q at there.1 there.0) ∙ k.states j q there.1
     ]
+
+pub keeps_state : (s : HostSpec) (P : List Entry) (old new : Devices) (i : ℕ) (r : DeviceRow) (x : DeviceState) → slice_get old.rows.items i ≡ Some r
+    → new.rows.items ≡ set old.rows.items i (record r { state = x }) → new.paused ≡ old.paused → new.pool ≡ old.pool → DevicesAgree s P old → DevicesAgree s (entry.State r.dev x ∷ P) new
+keeps_state s P old new i r x at rows paused pool k =
+    keeps_set s P (entry.State r.dev x ∷ P) old new i r x at rows paused pool (λ d. refl) (λ q h. h) (λ q h. h) refl
+    (tags_alike s P (entry.State r.dev x ∷ P) old.pool (λ d. refl) (λ u d. refl) k.tags) k
+
+pub keeps_offline : (s : HostSpec) (P : List Entry) (old new : Devices) (i : ℕ) (r : DeviceRow) → slice_get old.rows.items i ≡ Some r
+    → new.rows.items ≡ set old.rows.items i (record r { state = Offline }) → new.paused ≡ old.paused → new.pool ≡ old.pool → DevicesAgree s P old → DevicesAgree s (entry.Offline r.dev ∷ P) new
+keeps_offline s P old new i r at rows paused pool k =
+    keeps_set s P (entry.Offline r.dev ∷ P) old new i r Offline at rows paused pool (λ d. refl) (λ q h. h) (λ q h. h) refl
+    (tags_alike s P (entry.Offline r.dev ∷ P) old.pool (λ d. refl) (λ u d. refl) k.tags) k
 
 -- time goes on
 pub keeps_ticked : (s : HostSpec) (P : List Entry) (old new : Devices) → new.rows.items ≡ map unpaused old.rows.items → new.paused ≡ false → new.pool ≡ old.pool
-    → Keeps s P old → Keeps s (entry.Tick ∷ P) new
+    → DevicesAgree s P old → DevicesAgree s (entry.Tick ∷ P) new
 keeps_ticked s P old new rows paused pool k = record {
   rows_are = rw rows (for_map unpaused (λ r. refl) s.luns old.rows.items k.rows_are);
   apart = k.apart;

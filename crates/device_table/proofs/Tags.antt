@@ -18,8 +18,8 @@ use Rattle.tag_pool.specs.Tags.{Holders, holder, is_out_for, out_of, all_out}
 use Rattle.trace_model.specs.declared.standing.Standing.{Standing}
 use Rattle.trace_model.specs.declared.standing.Standing.TheVariants.{New, Waits, Busy, Ended}
 use Rattle.trace_model.specs.Commands.{standing, holds, is_busy}
-use Rattle.trace_model.specs.Sending.{held, held_of}
-use Rattle.device_table.specs.Keeps.{holder_of, TagsAre}
+use Rattle.trace_model.specs.Counts.{busy_count, busy_on}
+use Rattle.device_table.specs.DevicesAgree.{holder_of, TagsAre}
 use Rattle.device_table.proofs.Counts.{count_one, count_alike, find_one, find_alike, find_none}
 
 and_true : (b : Bool) → b && true ≡ b
@@ -65,16 +65,16 @@ module _ (s : HostSpec) (P Q : List Entry) (k : CmdSpec) (x : Standing) (re : Re
       let apart' : (k.id.0 == j.id.0) ≡ false = ne_eqb k.id.0 j.id.0 (λ e. false≢true (sym apart ∙ eq-eqb j.id.0 k.id.0 (sym e))) in
       re.changed j.id.0 ∙ ap (λ (b : Bool). cond b x (standing j.id.0 P)) apart'
 
-  pub held_now : held s Q + cond (is_busy (standing k.id.0 P)) 1 0 ≡ held s P + cond (is_busy x) 1 0
-  held_now =
+  pub busy_now : busy_count s Q + cond (is_busy (standing k.id.0 P)) 1 0 ≡ busy_count s P + cond (is_busy x) 1 0
+  busy_now =
       count_one (λ j. is_busy (standing j.id.0 Q)) (λ j. is_busy (standing j.id.0 P)) s.cmds re.ids re.place k re.at (λ j apart. ap is_busy (other j apart))
-      ∙ ap (λ (y : Standing). held s P + cond {A = ℕ} (is_busy y) 1 0) here
+      ∙ ap (λ (y : Standing). busy_count s P + cond {A = ℕ} (is_busy y) 1 0) here
 
-  pub held_of_now : (d : DevAddr) → held_of s Q d + cond (same_dev k.dev d && is_busy (standing k.id.0 P)) 1 0 ≡ held_of s P d + cond (same_dev k.dev d && is_busy x) 1 0
-  held_of_now d =
+  pub busy_on_now : (d : DevAddr) → busy_on s Q d + cond (same_dev k.dev d && is_busy (standing k.id.0 P)) 1 0 ≡ busy_on s P d + cond (same_dev k.dev d && is_busy x) 1 0
+  busy_on_now d =
       count_one (λ j. same_dev j.dev d && is_busy (standing j.id.0 Q)) (λ j. same_dev j.dev d && is_busy (standing j.id.0 P)) s.cmds re.ids re.place k re.at
       (λ j apart. ap (λ (y : Standing). same_dev j.dev d && is_busy y) (other j apart))
-      ∙ ap (λ (y : Standing). held_of s P d + cond {A = ℕ} (same_dev k.dev d && is_busy y) 1 0) here
+      ∙ ap (λ (y : Standing). busy_on s P d + cond {A = ℕ} (same_dev k.dev d && is_busy y) 1 0) here
 
   -- what holds a tag that neither standing of k holds
   pub holder_kept : (u : ℕ) → holds u x ≡ holds u (standing k.id.0 P) → holder_of s Q u ≡ holder_of s P u
@@ -137,21 +137,21 @@ tags_sent s P Q k n t old new re idle lt free is tags = record {
           ∙ sym (holder_kept s P Q k (Busy n t) re u (apart ∙ sym (idle_holds u (standing k.id.0 P) idle)))
     ]
 
-    of_each : (d : DevAddr) → out_of d (set old.tags t.0 (Some k.dev)) ≡ held_of s Q d
+    of_each : (d : DevAddr) → out_of d (set old.tags t.0 (Some k.dev)) ≡ busy_on s Q d
     of_each d =
-        more_both (same_dev k.dev d) (out_of d old.tags) (out_of d (set old.tags t.0 (Some k.dev))) (held_of s P d) (held_of s Q d) (cond (is_out_for d (holder t.0 old.tags)) 1 0) (cond (same_dev k.dev d && is_busy (standing k.id.0 P)) 1 0)
+        more_both (same_dev k.dev d) (out_of d old.tags) (out_of d (set old.tags t.0 (Some k.dev))) (busy_on s P d) (busy_on s Q d) (cond (is_out_for d (holder t.0 old.tags)) 1 0) (cond (same_dev k.dev d && is_busy (standing k.id.0 P)) 1 0)
         (out_set d old.tags t.0 (Some k.dev) within)
         (ap (λ (h : Option DevAddr). cond {A = ℕ} (is_out_for d h) 1 0) free)
-        (held_of_now s P Q k (Busy n t) re d ∙ ap (λ (b : Bool). held_of s P d + cond {A = ℕ} b 1 0) (and_true (same_dev k.dev d)))
+        (busy_on_now s P Q k (Busy n t) re d ∙ ap (λ (b : Bool). busy_on s P d + cond {A = ℕ} b 1 0) (and_true (same_dev k.dev d)))
         (ap (λ (b : Bool). cond {A = ℕ} (same_dev k.dev d && b) 1 0) idle ∙ ap (λ (b : Bool). cond {A = ℕ} b 1 0) (and_false (same_dev k.dev d)))
         (tags.of_each d)
 
-    all : all_out (set old.tags t.0 (Some k.dev)) ≡ held s Q
+    all : all_out (set old.tags t.0 (Some k.dev)) ≡ busy_count s Q
     all =
-        more_both true (all_out old.tags) (all_out (set old.tags t.0 (Some k.dev))) (held s P) (held s Q) (cond (is_some (holder t.0 old.tags)) 1 0) (cond (is_busy (standing k.id.0 P)) 1 0)
+        more_both true (all_out old.tags) (all_out (set old.tags t.0 (Some k.dev))) (busy_count s P) (busy_count s Q) (cond (is_some (holder t.0 old.tags)) 1 0) (cond (is_busy (standing k.id.0 P)) 1 0)
         (all_set old.tags t.0 (Some k.dev) within)
         (ap (λ (h : Option DevAddr). cond {A = ℕ} (is_some h) 1 0) free)
-        (held_now s P Q k (Busy n t) re)
+        (busy_now s P Q k (Busy n t) re)
         (ap (λ (b : Bool). cond {A = ℕ} b 1 0) idle)
         tags.all
 
@@ -202,19 +202,19 @@ tags_given s P Q k n t x old new re was idle alone lt is tags = record {
           ∙ sym (holder_kept s P Q k x re u (idle_holds u x idle ∙ sym (ap (holds u) was ∙ apart)))
     ]
 
-    of_each : (d : DevAddr) → out_of d (set old.tags t.0 None) ≡ held_of s Q d
+    of_each : (d : DevAddr) → out_of d (set old.tags t.0 None) ≡ busy_on s Q d
     of_each d =
-        less_both (same_dev k.dev d) (out_of d old.tags) (out_of d (set old.tags t.0 None)) (held_of s P d) (held_of s Q d) 0 (cond (same_dev k.dev d && is_busy (standing k.id.0 P)) 1 0) (cond (is_out_for d (holder t.0 old.tags)) 1 0)
+        less_both (same_dev k.dev d) (out_of d old.tags) (out_of d (set old.tags t.0 None)) (busy_on s P d) (busy_on s Q d) 0 (cond (same_dev k.dev d && is_busy (standing k.id.0 P)) 1 0) (cond (is_out_for d (holder t.0 old.tags)) 1 0)
         (out_set d old.tags t.0 None within) refl
-        (held_of_now s P Q k x re d ∙ ap (λ (b : Bool). held_of s P d + cond {A = ℕ} (same_dev k.dev d && b) 1 0) idle ∙ ap (λ (b : Bool). held_of s P d + cond {A = ℕ} b 1 0) (and_false (same_dev k.dev d)))
+        (busy_on_now s P Q k x re d ∙ ap (λ (b : Bool). busy_on s P d + cond {A = ℕ} (same_dev k.dev d && b) 1 0) idle ∙ ap (λ (b : Bool). busy_on s P d + cond {A = ℕ} b 1 0) (and_false (same_dev k.dev d)))
         (ap (λ (y : Standing). cond {A = ℕ} (same_dev k.dev d && is_busy y) 1 0) was ∙ ap (λ (b : Bool). cond {A = ℕ} b 1 0) (and_true (same_dev k.dev d)) ∙ sym (ap (λ (h : Option DevAddr). cond {A = ℕ} (is_out_for d h) 1 0) was_held))
         (tags.of_each d)
 
-    all : all_out (set old.tags t.0 None) ≡ held s Q
+    all : all_out (set old.tags t.0 None) ≡ busy_count s Q
     all =
-        less_both true (all_out old.tags) (all_out (set old.tags t.0 None)) (held s P) (held s Q) 0 (cond (is_busy (standing k.id.0 P)) 1 0) (cond (is_some (holder t.0 old.tags)) 1 0)
+        less_both true (all_out old.tags) (all_out (set old.tags t.0 None)) (busy_count s P) (busy_count s Q) 0 (cond (is_busy (standing k.id.0 P)) 1 0) (cond (is_some (holder t.0 old.tags)) 1 0)
         (all_set old.tags t.0 None within) refl
-        (held_now s P Q k x re ∙ ap (λ (b : Bool). held s P + cond {A = ℕ} b 1 0) idle)
+        (busy_now s P Q k x re ∙ ap (λ (b : Bool). busy_count s P + cond {A = ℕ} b 1 0) idle)
         (ap (λ (y : Standing). cond {A = ℕ} (is_busy y) 1 0) was ∙ sym (ap (λ (h : Option DevAddr). cond {A = ℕ} (is_some h) 1 0) was_held))
         tags.all
 
@@ -224,9 +224,9 @@ pub tags_kept : (s : HostSpec) (P Q : List Entry) (k : CmdSpec) (x : Standing) (
 tags_kept s P Q k x pool re was is tags = record {
   count = tags.count;
   holders = λ u below. tags.holders u below ∙ sym (holder_kept s P Q k x re u (idle_holds u x is ∙ sym (idle_holds u (standing k.id.0 P) was)));
-  of_each = λ d. tags.of_each d ∙ alike (held_of s P d) (held_of s Q d) (cond (same_dev k.dev d && is_busy (standing k.id.0 P)) 1 0) (cond (same_dev k.dev d && is_busy x) 1 0)
-      (held_of_now s P Q k x re d) (ap (λ (b : Bool). cond {A = ℕ} (same_dev k.dev d && b) 1 0) (was ∙ sym is));
-  all = tags.all ∙ alike (held s P) (held s Q) (cond (is_busy (standing k.id.0 P)) 1 0) (cond (is_busy x) 1 0) (held_now s P Q k x re) (ap (λ (b : Bool). cond {A = ℕ} b 1 0) (was ∙ sym is));
+  of_each = λ d. tags.of_each d ∙ alike (busy_on s P d) (busy_on s Q d) (cond (same_dev k.dev d && is_busy (standing k.id.0 P)) 1 0) (cond (same_dev k.dev d && is_busy x) 1 0)
+      (busy_on_now s P Q k x re d) (ap (λ (b : Bool). cond {A = ℕ} (same_dev k.dev d && b) 1 0) (was ∙ sym is));
+  all = tags.all ∙ alike (busy_count s P) (busy_count s Q) (cond (is_busy (standing k.id.0 P)) 1 0) (cond (is_busy x) 1 0) (busy_now s P Q k x re) (ap (λ (b : Bool). cond {A = ℕ} b 1 0) (was ∙ sym is));
 }
   where
     alike : (a b m n : ℕ) → b + m ≡ a + n → m ≡ n → a ≡ b

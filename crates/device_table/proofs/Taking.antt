@@ -24,7 +24,7 @@ use Rattle.trace_model.specs.Sending.{is_held, is_least_free, all_below}
 use Rattle.device_table.specs.declared.rows.DeviceRow.{DeviceRow}
 use Rattle.device_table.specs.declared.devices.Devices.{Devices}
 use Rattle.device_table.specs.Rows.{start_row, scripted}
-use Rattle.device_table.specs.Keeps.{TagsAre, Keeps}
+use Rattle.device_table.specs.DevicesAgree.{TagsAre, DevicesAgree}
 use Rattle.device_table.proofs.Counts.{find_none}
 use Rattle.device_table.proofs.Places.{starts_for, same_self, equal_dev}
 
@@ -139,7 +139,7 @@ depth_found s (l ∷ ls) d has = elim (cases_Bool (same_dev l.dev d)) as (λ _. 
 ]
 
 pub starts : (s : HostSpec) (t : Devices) → differ_in_address s.luns ≡ true → differ_in_id s.cmds ≡ true → t.rows.items ≡ map start_row s.luns → t.paused ≡ false
-    → t.pool.tags ≡ replicate s.can_queue None → t.pool.devices ≡ map at_start (map scripted s.luns) → Keeps s [] t
+    → t.pool.tags ≡ replicate s.can_queue None → t.pool.devices ≡ map at_start (map scripted s.luns) → DevicesAgree s [] t
 starts s t apart ids rows paused tags devices = record {
   rows_are = rw rows (starts_for s.luns);
   apart = apart;

@@ -38,14 +38,14 @@ pub struct Devices {
 }
 
 impl Devices {
-    ghost use Rattle.device_table.specs.Keeps.{Keeps, IsOf, HoldsAlone, takes, goes_in};
+    ghost use Rattle.device_table.specs.DevicesAgree.{DevicesAgree, IsOf, HoldsAlone, takes, goes_in};
 
     /// The table of an empty journal, for a host of `can_queue` tags. The addresses of its logical units differ, and each of
     /// them takes at least one command.
     pub fn new(alloc: Global, can_queue: u16, luns: &[LunSpec]) -> Result<Devices, NoMemory>
         requires apart { differ_in_address luns.now ≡ true }
         requires deep { list_all (λ l. nat_le 1 l.depth) luns.now ≡ true }
-        ensures { IfOk result (λ t. (s : SpecSeen) → s.can_queue ≡ can_queue → s.luns ≡ luns.now → differ_in_id s.cmds ≡ true → Keeps s [] t) }
+        ensures { IfOk result (λ t. (s : SpecSeen) → s.can_queue ≡ can_queue → s.luns ≡ luns.now → differ_in_id s.cmds ≡ true → DevicesAgree s [] t) }
     {
         let rows = rows_for(alloc, luns)?;
         let scripted = depths_for(alloc, luns)?;
@@ -66,7 +66,7 @@ impl Devices {
 
     /// The place of a device, None where the host has no such device.
     pub fn place_of(&self, dev: DevAddr) -> Option<usize>
-        ensures { (s : SpecSeen) (P : List EntrySeen) → Keeps s P self.now → MatchOption result (has_dev s.luns dev ≡ false) (λ i. (dev_at i self.now.rows.items ≡ Some dev) × (has_dev s.luns dev ≡ true)) }
+        ensures { (s : SpecSeen) (P : List EntrySeen) → DevicesAgree s P self.now → MatchOption result (has_dev s.luns dev ≡ false) (λ i. (dev_at i self.now.rows.items ≡ Some dev) × (has_dev s.luns dev ≡ true)) }
     {
         for place in 0..self.count() {
             if same_dev(self.rows[place].dev, dev) {
@@ -89,7 +89,7 @@ impl Devices {
     pub fn goes(&self, place: usize) -> bool
         requires { place < length self.now.rows.items }
         ensures shown { result ≡ goes_in self.now place }
-        ensures goes { (s : SpecSeen) (P : List EntrySeen) (d : _) → Keeps s P self.now → dev_at place self.now.rows.items ≡ Some d → result ≡ (not (is_online s d P) || is_ready s P d) }
+        ensures goes { (s : SpecSeen) (P : List EntrySeen) (d : _) → DevicesAgree s P self.now → dev_at place self.now.rows.items ≡ Some d → result ≡ (not (is_online s d P) || is_ready s P d) }
     {
         let row = self.row(place);
         !online(row.state) || self.takes(row)
@@ -104,8 +104,8 @@ impl Devices {
     /// Takes the least free tag for a command that is sent to the device at a place, which takes one more.
     pub fn take_tag(&mut self, place: usize) -> Tag
         requires { (r : _) × (slice_get self.old.rows.items place ≡ Some r) × (takes self.old r ≡ true) }
-        ensures least { (s : SpecSeen) (P : List EntrySeen) → Keeps s P self.old → (is_least_free s P result.0 ≡ true) × (result.0 < s.can_queue) }
-        ensures keeps { (s : SpecSeen) (P : List EntrySeen) (c : IdSeen) (n : AttemptSeen) → Keeps s P self.old → IsOf s self.old c place → is_busy (standing c.0 P) ≡ false → Keeps s (entries.Sent c n result ∷ P) self.new }
+        ensures least { (s : SpecSeen) (P : List EntrySeen) → DevicesAgree s P self.old → (is_least_free s P result.0 ≡ true) × (result.0 < s.can_queue) }
+        ensures keeps { (s : SpecSeen) (P : List EntrySeen) (c : IdSeen) (n : AttemptSeen) → DevicesAgree s P self.old → IsOf s self.old c place → is_busy (standing c.0 P) ≡ false → DevicesAgree s (entries.Sent c n result ∷ P) self.new }
         ensures out { is_out result.0 self.new.pool.tags ≡ true }
         ensures rows { self.new.rows.items ≡ self.old.rows.items }
     {
@@ -121,7 +121,7 @@ impl Devices {
     pub fn bounce(&mut self, place: usize, tag: Tag, why: BusyOf)
         requires place { place < length self.old.rows.items }
         requires out { is_out tag.0 self.old.pool.tags ≡ true }
-        ensures keeps { (s : SpecSeen) (P : List EntrySeen) (c : IdSeen) (n : AttemptSeen) → Keeps s P self.old → IsOf s self.old c place → standing c.0 P ≡ Busy n tag → HoldsAlone s P c tag.0 → tag.0 < s.can_queue → Keeps s (entries.Bounced c n why ∷ P) self.new }
+        ensures keeps { (s : SpecSeen) (P : List EntrySeen) (c : IdSeen) (n : AttemptSeen) → DevicesAgree s P self.old → IsOf s self.old c place → standing c.0 P ≡ Busy n tag → HoldsAlone s P c tag.0 → tag.0 < s.can_queue → DevicesAgree s (entries.Bounced c n why ∷ P) self.new }
     {
         self.pool.give(tag);
         match why {
@@ -149,7 +149,7 @@ impl Devices {
     pub fn again(&mut self, place: usize, tag: Tag, counted: bool)
         requires place { place < length self.old.rows.items }
         requires out { is_out tag.0 self.old.pool.tags ≡ true }
-        ensures keeps { (s : SpecSeen) (P : List EntrySeen) (c : IdSeen) (n : AttemptSeen) → Keeps s P self.old → IsOf s self.old c place → standing c.0 P ≡ Busy n tag → HoldsAlone s P c tag.0 → tag.0 < s.can_queue → Keeps s (entries.Again c counted ∷ P) self.new }
+        ensures keeps { (s : SpecSeen) (P : List EntrySeen) (c : IdSeen) (n : AttemptSeen) → DevicesAgree s P self.old → IsOf s self.old c place → standing c.0 P ≡ Busy n tag → HoldsAlone s P c tag.0 → tag.0 < s.can_queue → DevicesAgree s (entries.Again c counted ∷ P) self.new }
     {
         self.pool.give(tag);
         if !counted {
@@ -160,7 +160,7 @@ impl Devices {
     /// A busy command was reported: its tag is free again.
     pub fn tell(&mut self, tag: Tag)
         requires out { is_out tag.0 self.old.pool.tags ≡ true }
-        ensures keeps { (s : SpecSeen) (P : List EntrySeen) (c : IdSeen) (i : ℕ) (n : AttemptSeen) (a : AnswerSeen) → Keeps s P self.old → IsOf s self.old c i → standing c.0 P ≡ Busy n tag → HoldsAlone s P c tag.0 → tag.0 < s.can_queue → Keeps s (entries.Told c a ∷ P) self.new }
+        ensures keeps { (s : SpecSeen) (P : List EntrySeen) (c : IdSeen) (i : ℕ) (n : AttemptSeen) (a : AnswerSeen) → DevicesAgree s P self.old → IsOf s self.old c i → standing c.0 P ≡ Busy n tag → HoldsAlone s P c tag.0 → tag.0 < s.can_queue → DevicesAgree s (entries.Told c a ∷ P) self.new }
     {
         self.pool.give(tag);
     }
@@ -168,7 +168,7 @@ impl Devices {
     /// An answer of the device at a place was judged: TASK SET FULL and GOOD change the device's depth.
     pub fn judged(&mut self, place: usize, a: &Answer)
         requires { place < length self.old.rows.items }
-        ensures keeps { (s : SpecSeen) (P : List EntrySeen) (c : IdSeen) (n : AttemptSeen) (d : DispSeen) → Keeps s P self.old → IsOf s self.old c place → answer n.0 P ≡ Some a.now → Keeps s (entries.Judged c n d ∷ P) self.new }
+        ensures keeps { (s : SpecSeen) (P : List EntrySeen) (c : IdSeen) (n : AttemptSeen) (d : DispSeen) → DevicesAgree s P self.old → IsOf s self.old c place → answer n.0 P ≡ Some a.now → DevicesAgree s (entries.Judged c n d ∷ P) self.new }
         ensures rows { self.new.rows.items ≡ self.old.rows.items }
         ensures tags { self.new.pool.tags ≡ self.old.pool.tags }
     {
@@ -186,15 +186,33 @@ impl Devices {
     /// The device at a place goes to a state.
     pub fn set_state(&mut self, place: usize, state: DeviceState)
         requires { place < length self.old.rows.items }
-        ensures keeps { (s : SpecSeen) (P : List EntrySeen) (d : _) → dev_at place self.old.rows.items ≡ Some d → Keeps s P self.old → Keeps s (entries.State d state ∷ P) self.new }
+        ensures keeps { (s : SpecSeen) (P : List EntrySeen) (d : _) → dev_at place self.old.rows.items ≡ Some d → DevicesAgree s P self.old → DevicesAgree s (entries.State d state ∷ P) self.new }
+    {
+        self.write_state(place, state);
+    }
+
+    // Writes the state of the device at a place.
+    fn write_state(&mut self, place: usize, state: DeviceState)
+        requires { place < length self.old.rows.items }
+        ensures rows { (r : _) → slice_get self.old.rows.items place ≡ Some r → self.new.rows.items ≡ slice_set self.old.rows.items place (record r { state = state }) }
+        ensures paused { self.new.paused ≡ self.old.paused }
+        ensures pool { self.new.pool ≡ self.old.pool }
     {
         let row = self.row(place);
         self.rows[place] = DeviceRow { state, ..row };
     }
 
+    /// The device at a place goes offline at the end of recovery.
+    pub fn go_offline(&mut self, place: usize)
+        requires { place < length self.old.rows.items }
+        ensures keeps { (s : SpecSeen) (P : List EntrySeen) (d : _) → dev_at place self.old.rows.items ≡ Some d → DevicesAgree s P self.old → DevicesAgree s (entries.Offline d ∷ P) self.new }
+    {
+        self.write_state(place, DeviceState::Offline);
+    }
+
     /// Time goes on: all pauses end.
     pub fn tick(&mut self)
-        ensures keeps { (s : SpecSeen) (P : List EntrySeen) → Keeps s P self.old → Keeps s (entries.Tick ∷ P) self.new }
+        ensures keeps { (s : SpecSeen) (P : List EntrySeen) → DevicesAgree s P self.old → DevicesAgree s (entries.Tick ∷ P) self.new }
     {
         self.paused = false;
         end_pauses(&mut self.rows);

@@ -6,15 +6,15 @@ ghost use Rattle.mid_base.specs.declared.host_spec.HostSpec.{HostSpec};
 ghost use Rattle.mid_base.specs.declared.names.CmdId.{CmdId};
 ghost use Rattle.trace_model.specs.Commands.{standing, is_busy};
 ghost use Rattle.device_table.specs.declared.devices.Devices.{Devices};
-ghost use Rattle.device_table.specs.Keeps.{Keeps, IsApart};
+ghost use Rattle.device_table.specs.DevicesAgree.{DevicesAgree, IsApart};
 
 /// An entry that says nothing of devices and tags leaves the table as it has to be.
 pub fn other_entries_change_no_device()
-    ensures { (s : HostSpec) (P : List Entry) (t : Devices) (e : Entry) → IsApart e → Keeps s P t → Keeps s (e ∷ P) t }
+    ensures { (s : HostSpec) (P : List Entry) (t : Devices) (e : Entry) → IsApart e → DevicesAgree s P t → DevicesAgree s (e ∷ P) t }
 {}
 
 /// So does a command that isn't busy where it is taken or reported: it holds no tag.
 pub fn idle_commands_change_no_tag()
-    ensures took { (s : HostSpec) (P : List Entry) (t : Devices) (c : CmdId) → is_busy (standing c.0 P) ≡ false → Keeps s P t → Keeps s (Took c ∷ P) t }
-    ensures told { (s : HostSpec) (P : List Entry) (t : Devices) (c : CmdId) (a : Answer) → is_busy (standing c.0 P) ≡ false → Keeps s P t → Keeps s (Told c a ∷ P) t }
+    ensures took { (s : HostSpec) (P : List Entry) (t : Devices) (c : CmdId) → is_busy (standing c.0 P) ≡ false → DevicesAgree s P t → DevicesAgree s (Took c ∷ P) t }
+    ensures told { (s : HostSpec) (P : List Entry) (t : Devices) (c : CmdId) (a : Answer) → is_busy (standing c.0 P) ≡ false → DevicesAgree s P t → DevicesAgree s (Told c a ∷ P) t }
 {}

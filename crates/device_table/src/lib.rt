@@ -1,6 +1,6 @@
 //! The table of a host's devices: their states and pauses, the tags that are out, and the depths.
 //!
-//! It is tied to the journal by one relation, `Keeps`. Each call says for which entry it keeps the relation, or that its
+//! It is tied to the journal by one relation, `DevicesAgree`. Each call says for which entry it keeps the relation, or that its
 //! answer is what a word of the journal's rules says.
 #![tactic(auto)]
 

@@ -68,3 +68,23 @@ fn commands_go_to_running_and_offline_devices(rt: HostRuntime) -> Result<(), Fai
     devices.tick();
     Ok(())
 }
+
+#[test]
+fn a_device_goes_offline(rt: HostRuntime) -> Result<(), Fail> {
+    let luns = [unit(3, DeviceState::Running)];
+    let Ok(mut devices) = Devices::new(rt.alloc(), 4, &luns) else {
+        assert!(rt; false, "memory for a device");
+        return Ok(());
+    };
+    if devices.count() < 1 {
+        assert!(rt; false, "a device");
+        return Ok(());
+    }
+    devices.go_offline(0);
+    if devices.count() < 1 {
+        assert!(rt; false, "a device still");
+        return Ok(());
+    }
+    assert_eq!(rt; devices.row(0).state, DeviceState::Offline);
+    Ok(())
+}

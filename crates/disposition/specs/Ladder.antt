@@ -1,76 +1,38 @@
 -- The ladder over a list of failed commands: levels, scopes and the next act. Nothing here looks at a journal.
-use Rattle.std.specs.Prelude.{ℕ, zero, suc, ◌+◌, ◌*◌, ◌==◌, Bool, true, false, not, ◌&&◌, if◌then◌else◌, List, [], ◌∷◌, ◌++◌, map, Option, None, Some, find, nat_lt}
+use Rattle.std.specs.Prelude.{ℕ, ◌+◌, ◌*◌, ◌==◌, Bool, true, false, not, ◌&&◌, if◌then◌else◌, List, [], ◌∷◌, ◌++◌, map, Option, None, Some, find, nat_lt}
 use Rattle.std.specs.List.{list_any}
 use Rattle.mid_base.specs.Bytes.{sense_list}
 use Rattle.mid_base.specs.declared.names.DevAddr.{DevAddr}
 use Rattle.mid_base.specs.declared.answers.Answer.{Answer}
 use Rattle.mid_base.specs.declared.answers.Scope.{Scope}
 use Rattle.mid_base.specs.declared.answers.Scope.TheVariants.{Cmd, Dev, Target, Bus, Host}
-use Rattle.mid_base.specs.declared.host_spec.Handlers.{Handlers}
-use Rattle.mid_base.specs.Address.{same_dev}
+use Rattle.mid_base.specs.Address.{same_dev, in_scope}
+use Rattle.mid_base.specs.Codes.{did_ok, check_condition}
+use Rattle.mid_base.specs.Levels.{Level, not_online, fetch_sense, abort, start_unit, reset_device, reset_target, reset_bus, reset_host, give_up, no_level, number, level_of}
 use Rattle.sense_data.specs.Grammar.{is_valid_sense}
-use Rattle.mid_base.specs.Callbacks.{has_callback}
 use Rattle.disposition.specs.Disp.{check_sense, is_fail}
 use Rattle.disposition.specs.declared.todo.Todo.{Todo}
 
--- The levels of the ladder.
-pub data Level : Type 0 where
-  fetch_sense : Level
-  abort : Level
-  start_unit : Level
-  reset_device : Level
-  reset_target : Level
-  reset_bus : Level
-  reset_host : Level
-  give_up : Level
-  no_level : Level
-
-abbrev pub level_of : ℕ → Level
-level_of (suc zero) = fetch_sense
-level_of (suc (suc zero)) = abort
-level_of (suc (suc (suc zero))) = start_unit
-level_of (suc (suc (suc (suc zero)))) = reset_device
-level_of (suc (suc (suc (suc (suc zero))))) = reset_target
-level_of (suc (suc (suc (suc (suc (suc zero)))))) = reset_bus
-level_of (suc (suc (suc (suc (suc (suc (suc zero))))))) = reset_host
-level_of (suc (suc (suc (suc (suc (suc (suc (suc zero)))))))) = give_up
-level_of _ = no_level
-
--- its callback is there, or it has none
-abbrev pub can_succeed : Handlers → Level → Bool
-can_succeed h abort = has_callback h 1
-can_succeed h reset_device = has_callback h 2
-can_succeed h reset_target = has_callback h 4
-can_succeed h reset_bus = has_callback h 8
-can_succeed h reset_host = has_callback h 16
-can_succeed h _ = true
-
--- it may fail
-abbrev pub can_fail : Level → Bool
-can_fail give_up = false
-can_fail _ = true
-
 abbrev pub wants_sense : Option Answer → Bool
 wants_sense None = false
-wants_sense (Some a) = (a.host.0 == 0) && (a.status == 2) && not (is_valid_sense (sense_list a.sense))
+wants_sense (Some a) = (a.host.0 == did_ok) && (a.status == check_condition) && not (is_valid_sense (sense_list a.sense))
 
 -- its sense asks for a start of the unit
 abbrev pub wants_start : Option Answer → Bool
 wants_start None = false
 wants_start (Some a) = is_valid_sense (sense_list a.sense) && is_fail (check_sense (sense_list a.sense))
 
+-- a command's own scope has it, or that of a reset has its device
 abbrev pub is_in_scope : Scope → Todo → Bool
 is_in_scope (Cmd c) x = x.cmd.0 == c.0
-is_in_scope (Dev d) x = same_dev x.dev d
-is_in_scope (Target ch t) x = (x.dev.channel == ch) && (x.dev.target == t)
-is_in_scope (Bus ch) x = x.dev.channel == ch
-is_in_scope Host x = true
+is_in_scope scope x = in_scope scope x.dev
 
 -- x is of the kind that a level is for; `aborts` says whether the ladder has level 2
 abbrev pub is_of_kind : Bool → Level → List Todo → Todo → Bool
 is_of_kind aborts fetch_sense xs x = not x.cancelled && wants_sense x.answer
 is_of_kind aborts abort xs x = x.cancelled && aborts
 is_of_kind aborts start_unit xs x = wants_start x.answer && not (list_any (λ y. y.cancelled && same_dev y.dev x.dev) xs)
+is_of_kind aborts not_online xs x = false
 is_of_kind aborts no_level xs x = false
 is_of_kind aborts _ xs x = true
 
@@ -107,10 +69,10 @@ abbrev pub pairs : List Todo → List Pair
 pairs xs =
     let cmds = map (λ x. Cmd x.cmd) xs in
     let ds = devs xs in
-    map (λ c. (1, c)) cmds ++ (map (λ c. (2, c)) cmds
-    ++ (map (λ d. (3, Dev d)) ds ++ (map (λ d. (4, Dev d)) ds
-    ++ (map (λ d. (5, Target d.channel d.target)) ds ++ (map (λ d. (6, Bus d.channel)) ds
-    ++ ((7, Host) ∷ map (λ d. (8, Dev d)) ds))))))
+    map (λ c. (number fetch_sense, c)) cmds ++ (map (λ c. (number abort, c)) cmds
+    ++ (map (λ d. (number start_unit, Dev d)) ds ++ (map (λ d. (number reset_device, Dev d)) ds
+    ++ (map (λ d. (number reset_target, Target d.channel d.target)) ds ++ (map (λ d. (number reset_bus, Bus d.channel)) ds
+    ++ ((number reset_host, Host) ∷ map (λ d. (number give_up, Dev d)) ds))))))
 
 abbrev pub is_wanted_pair : Bool → List Todo → Pair → Bool
 is_wanted_pair aborts xs p = list_any (λ x. is_in_scope p.1 x && is_of_kind aborts (level_of p.0) xs x) xs

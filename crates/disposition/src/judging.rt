@@ -36,6 +36,8 @@ fn by_host_byte(a: &Answer) -> Disp
 {
     match a.host {
         DID_OK => by_status(a),
+        // Nothing stands there, or somebody ended the command on purpose: also after a reset that wasn't asked for here, only
+        // who sent the command knows whether it may be sent again.
         DID_NO_CONNECT | DID_BAD_TARGET | DID_ABORT | DID_RESET => Disp::Success,
         DID_BUS_BUSY | DID_PARITY | DID_ERROR | DID_SOFT_ERROR => Disp::Retry,
         DID_IMM_RETRY | DID_REQUEUE => Disp::Requeue,
@@ -49,6 +51,7 @@ fn by_status(a: &Answer) -> Disp
 {
     match a.status {
         GOOD | CONDITION_MET | RESERVATION_CONFLICT | ACA_ACTIVE => Disp::Success,
+        // The unit had no room and began nothing, which costs the command no retry.
         BUSY | TASK_SET_FULL => Disp::Requeue,
         TASK_ABORTED => Disp::Retry,
         CHECK_CONDITION => match SenseView::read(a.sense.as_slice()) {
@@ -83,6 +86,7 @@ fn by_code(key: u8, asc: u8, ascq: u8) -> Disp
             _ => Disp::Success,
         },
         MEDIUM_ERROR => match asc {
+            // The unit has read often enough by itself: the block is lost, and one more reading won't find it.
             UNRECOVERED_READ_ERROR | ADDRESS_MARK_NOT_FOUND | RECORDED_ENTITY_NOT_FOUND => {
                 Disp::Success
             }

@@ -97,6 +97,13 @@ impl EhQueue {
         self.failed() >= 1 && self.failed() == self.busy
     }
 
+    /// Whether the command is on the list.
+    pub fn has(&self, c: CmdId) -> bool
+        ensures { is_failed c self.now.failed ≡ result }
+    {
+        self.failed.iter().any(|failure| is_of(c, failure))
+    }
+
     /// The failed command at place `i` of the list, counted from 0, with its attempt and whether that was cancelled. There
     /// has to be such a place.
     pub fn at(&self, i: u16) -> (CmdId, Attempt, bool)

@@ -41,3 +41,15 @@ fn a_command_that_ends_leaves_the_list(rt: HostRuntime) {
     assert_eq!(rt; (queue.busy(), queue.failed()), (0, 0));
     assert!(rt; !queue.may_start(), "nothing has failed");
 }
+
+#[test]
+fn a_failed_command_is_found_on_the_list(rt: HostRuntime) {
+    let Ok(mut queue) = EhQueue::new(rt.alloc(), 2) else {
+        assert!(rt; false, "room for two commands");
+        return;
+    };
+    queue.sent();
+    queue.sent();
+    queue.add(CmdId(7), Attempt(2), true);
+    assert_eq!(rt; (queue.has(CmdId(7)), queue.has(CmdId(2))), (true, false));
+}

@@ -1,5 +1,7 @@
-use crate::{Class, class_of, same_class, take};
+use crate::{Class, Lines, class_of, same_class, take};
 use mid_base::{DevAddr, Fault, HostByte, PlanEntry, SenseBytes};
+use std::alloc::Global;
+use std::test::Fail;
 
 const HERE: DevAddr = DevAddr {
     channel: 1,
@@ -205,4 +207,52 @@ fn an_empty_plan_hits_nothing(rt: HostRuntime) {
             assert_eq!(rt; met, None, "{nth}");
         }
     }
+}
+
+// A plan whose line number i, from 1 on, hits the call number i alone.
+fn rising(alloc: Global, count: u32) -> Result<Vec<PlanEntry>, Fail> {
+    let mut plan = Vec::new(alloc);
+    for i in 0..count {
+        plan.push(planned(HERE, Fault::Latency(i), i, 1, 1))?;
+    }
+    Ok(plan)
+}
+
+#[test]
+fn a_plan_of_many_lines_is_met_line_by_line(rt: HostRuntime) -> Result<(), Fail> {
+    let plan = rising(rt.alloc(), 300)?;
+    let lines = Lines::new(rt.alloc(), &plan)?;
+    for nth in [0, 1, 127, 128, 255, 256, 299] {
+        let met = lines.meet(HERE, Class::Time, nth).copied();
+        assert_eq!(rt; met, Some(Fault::Latency(nth as u32)), "{nth}");
+    }
+    Ok(())
+}
+
+#[test]
+fn no_line_behind_the_last_one_is_met(rt: HostRuntime) -> Result<(), Fail> {
+    let plan = rising(rt.alloc(), 300)?;
+    let lines = Lines::new(rt.alloc(), &plan)?;
+    assert_eq!(rt; lines.meet(HERE, Class::Time, 300), None);
+    Ok(())
+}
+
+// The second block has a line that hits a number of the first block too.
+#[test]
+fn the_first_line_is_met_before_one_of_another_block(rt: HostRuntime) -> Result<(), Fail> {
+    let mut plan = rising(rt.alloc(), 200)?;
+    plan.push(planned(HERE, Fault::Never, 3, 1, 999))?;
+    let lines = Lines::new(rt.alloc(), &plan)?;
+    for (nth, fault) in [
+        (3, Fault::Latency(3)),
+        (199, Fault::Latency(199)),
+        (200, Fault::Never),
+    ] {
+        assert_eq!(rt;
+            lines.meet(HERE, Class::Time, nth).copied(),
+            Some(fault),
+            "{nth}"
+        );
+    }
+    Ok(())
 }

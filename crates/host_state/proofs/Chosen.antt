@@ -17,15 +17,15 @@ use Rattle.attempt_table.proofs.Bools.{same, and_true}
 use Rattle.command_table.specs.declared.rows.Taken.{Taken}
 use Rattle.command_table.specs.Rows.{ids_of, waits_row, waits_taken}
 use Rattle.command_table.specs.Sets.{has}
-use Rattle.command_table.specs.Follows.{IsPlaced}
+use Rattle.command_table.specs.CommandsAgree.{IsPlaced}
 use Rattle.command_table.proofs.Places.{both_at, command_at}
 use Rattle.command_table.proofs.Entries.{reads_at}
 use Rattle.device_table.specs.declared.rows.DeviceRow.{DeviceRow}
-use Rattle.device_table.specs.Keeps.{goes, goes_in, IsOf}
+use Rattle.device_table.specs.DevicesAgree.{goes, goes_in, IsOf}
 use Rattle.device_table.proofs.Entries.{dev_is}
 use Rattle.device_table.proofs.Depths.{goes_is}
 use Rattle.host_state.specs.declared.running.Running.{Running}
-use Rattle.host_state.specs.Runs.{Runs}
+use Rattle.host_state.specs.HostAgrees.{HostAgrees}
 use Rattle.host_state.specs.Picks.{IsFirst, NoneWaits, IsPicked}
 use Rattle.host_state.proofs.Ties.{of_device}
 
@@ -58,7 +58,7 @@ both_of : (a b : Bool) → a && b ≡ true → (a ≡ true) × (b ≡ true)
 both_of true b h = (refl, h)
 both_of false b h = absurd (false≢true h)
 
-module _ (s : HostSpec) (P : List Entry) (r : Running) (runs : Runs s P r) where
+module _ (s : HostSpec) (P : List Entry) (r : Running) (runs : HostAgrees s P r) where
   -- whether a command that was taken can go, by its row
   pickable_is : (j : ℕ) (x : Taken) → (p : IsPlaced r.commands.rows.items j x) → is_pickable s P x.command.0 ≡ waits p.row.standing && goes_in r.devices p.row.device
   pickable_is j x p =

@@ -1,13 +1,17 @@
 -- What is said of attempts and commands together where an attempt is sent.
-use Rattle.std.proofs.Common.{◌≡◌, ◌≢◌, ◌∙◌, sym, ap, subst, refl, ℕ, zero, suc, ◌+◌, ◌<◌, ◌==◌, Bool, true, false, not, ◌||◌, cond, List, [], ◌∷◌, ◌++◌, length, Option, None, Some, arith, inl, inr}
-use Rattle.std.specs.Prelude.{slice_get, slice_set, option_map, is_some}
+use Rattle.std.proofs.Common.{◌≡◌, ◌≢◌, ◌∙◌, sym, ap, subst, refl, ℕ, zero, suc, ◌+◌, ◌<◌, ◌==◌, Bool, true, false, not, ◌&&◌, ◌||◌, cond, List, [], ◌∷◌, ◌++◌, length, Option, None, Some, arith, inl, inr}
+use Rattle.std.specs.Prelude.{slice_get, slice_set, option_map, is_some, nat_lt}
+use Rattle.device_states.specs.States.{is_running}
+use Rattle.tag_pool.specs.Tags.{all_out}
+use Rattle.trace_model.specs.Counts.{busy_count}
 use Rattle.std.specs.List.{list_any}
-use Rattle.std.proofs.lemmas.Bool.{cases_Bool, false≢true, eq-eqb, eqb-true, ne_eqb}
+use Rattle.std.proofs.lemmas.Bool.{cases_Bool, false≢true, eq-eqb, eqb-true, ne_eqb, ltb-true}
 use Rattle.std.proofs.lemmas.List.{length_push}
 use Rattle.std.proofs.lemmas.Option.{same_Some, none-some}
 use Rattle.mid_base.specs.declared.names.CmdId.{CmdId}
 use Rattle.mid_base.specs.declared.names.Attempt.{Attempt}
 use Rattle.mid_base.specs.declared.names.Tag.{Tag}
+use Rattle.mid_base.specs.declared.answers.By.{By}
 use Rattle.mid_base.specs.declared.answers.BusyOf.{BusyOf}
 use Rattle.mid_base.specs.declared.answers.TagState.{TagState}
 use Rattle.mid_base.specs.declared.answers.TagState.TheVariants as tag
@@ -18,42 +22,32 @@ use Rattle.mid_base.specs.declared.host_spec.HostSpec.{HostSpec}
 use Rattle.mid_base.specs.Past.{sent_for, was_sent}
 use Rattle.trace_model.specs.declared.standing.Standing.{Standing}
 use Rattle.trace_model.specs.declared.standing.Standing.TheVariants.{Waits, Busy}
-use Rattle.trace_model.specs.Commands.{standing, holds, is_busy}
+use Rattle.trace_model.specs.Commands.{standing, holds, is_busy, failed_since_sent, is_failed}
 use Rattle.trace_model.specs.Sending.{is_held, is_least_free, is_ready, all_below}
-use Rattle.trace_model.specs.Steps.{sent_with, tag_state}
-use Rattle.attempt_table.specs.declared.rows.Phase.TheVariants as phase
+use Rattle.trace_model.specs.Tags.{sent_with, tag_state}
 use Rattle.attempt_table.specs.declared.rows.Row.{Row}
-use Rattle.attempt_table.specs.Rows.{row_of, live_in, tag_in, Moves, with_phase}
+use Rattle.attempt_table.specs.Rows.{row_of, live_in, tag_in, turned_away, Becomes}
 use Rattle.attempt_table.proofs.Bools.{same}
-use Rattle.attempt_table.proofs.Places.{row_last, row_front, row_new, moved_here, moved_other, tags_get}
+use Rattle.attempt_table.proofs.Places.{row_last, row_front, row_new, row_here, row_other, tags_get}
 use Rattle.attempt_table.proofs.Shown.{last_was_sent}
 use Rattle.attempt_table.proofs.Told.{armed_is_live}
 use Rattle.command_table.specs.declared.rows.CommandRow.{CommandRow}
 use Rattle.command_table.specs.declared.commands.Commands.{Commands}
 use Rattle.command_table.specs.Rows.{id_at}
-use Rattle.command_table.specs.Follows.{Follows}
+use Rattle.command_table.specs.CommandsAgree.{CommandsAgree}
 use Rattle.trace_model.specs.Devices.{is_online}
 use Rattle.mid_base.specs.declared.names.DevAddr.{DevAddr}
 use Rattle.device_table.specs.declared.rows.DeviceRow.{DeviceRow}
-use Rattle.device_table.specs.Keeps.{takes, goes, goes_in, IsOf}
+use Rattle.device_table.specs.DevicesAgree.{takes, goes, goes_in, IsOf}
 use Rattle.device_table.proofs.Depths.{goes_is, takes_is}
 use Rattle.host_state.specs.declared.running.Running.{Running}
-use Rattle.host_state.specs.Runs.{Runs, AreUnderWay, AreHeld}
+use Rattle.host_state.specs.HostAgrees.{HostAgrees, AreUnderWay, AreHeld}
 use Rattle.host_state.specs.Picks.{CanSend}
-use Rattle.host_state.proofs.Ties.{busy_at, of_device, of_device_at}
+use Rattle.host_state.proofs.Ties.{any_at, busy_at, of_device, of_device_at, failed_alike}
 use Rattle.host_state.proofs.Moving.{both_true}
 
-any_at : (p : CmdSpec → Bool) (xs : List CmdSpec) (i : ℕ) (x : CmdSpec) → slice_get xs i ≡ Some x → p x ≡ true → list_any p xs ≡ true
-any_at p [] i x at holds = absurd (none-some x at)
-any_at p (y ∷ xs) zero x at holds = ap (λ (b : Bool). b || list_any p xs) (ap p (same_Some y x at) ∙ holds)
-any_at p (y ∷ xs) (suc i) x at holds = ap (λ (b : Bool). p y || b) (any_at p xs i x at holds) ∙ or_true (p y)
-  where
-    or_true : (b : Bool) → b || true ≡ true
-    or_true true = refl
-    or_true false = refl
-
 -- the tag of a busy command is held
-pub held_by : (s : HostSpec) (P : List Entry) (t : Commands) (c : ℕ) (n : Attempt) (u : Tag) → Follows s P t → standing c P ≡ Busy n u → is_held s P u.0 ≡ true
+pub held_by : (s : HostSpec) (P : List Entry) (t : Commands) (c : ℕ) (n : Attempt) (u : Tag) → CommandsAgree s P t → standing c P ≡ Busy n u → is_held s P u.0 ≡ true
 held_by s P t c n u f busy =
     let there = busy_at s P t c n u f busy in
     any_at (λ k. holds u.0 (standing k.id.0 P)) s.cmds there.0 there.1 there.2
@@ -67,8 +61,8 @@ not_held s P t least = by_held (is_held s P t) refl (both_true (not (is_held s P
     by_held false is h = is
 
 -- a tag that no command holds is free
-pub free_is : (s : HostSpec) (P : List Entry) (r : Running) (t : ℕ) → Runs s P r → is_least_free s P t ≡ true → t < s.can_queue → slice_get r.attempts.tags.items t ≡ Some tag.Free
-free_is s P r t runs least lt = by_state (tag_state P t) (ap (λ (xs : List TagState). slice_get xs t) runs.attempts.tags ∙ tags_get 0 s.can_queue t t P (omega (arith)) lt)
+pub free_is : (s : HostSpec) (P : List Entry) (r : Running) (t : ℕ) → HostAgrees s P r → is_least_free s P t ≡ true → t < s.can_queue → slice_get r.attempts.tags.items t ≡ Some tag.Free
+free_is s P r t runs least lt = by_state (tag_state P t) (ap (λ (xs : List TagState). slice_get xs t) runs.attempts.0.tags ∙ tags_get 0 s.can_queue t t P (omega (arith)) lt)
   where
     is_free : TagState → Bool
     is_free tag.Free = true
@@ -90,7 +84,7 @@ free_is s P r t runs least lt = by_state (tag_state P t) (ap (λ (xs : List TagS
     by_state (tag.Armed n) at = absurd (held_still (tag.Armed n) at (λ e. false≢true (ap is_free e)))
     by_state (tag.Owned n by) at = absurd (held_still (tag.Owned n by) at (λ e. false≢true (ap is_free e)))
 
-module _ (s : HostSpec) (P : List Entry) (r : Running) (runs : Runs s P r) (c : CmdId) (n : Attempt) (t : Tag) (number : n.0 ≡ length r.attempts.rows.items + 1)
+module _ (s : HostSpec) (P : List Entry) (r : Running) (runs : HostAgrees s P r) (c : CmdId) (n : Attempt) (t : Tag) (number : n.0 ≡ length r.attempts.rows.items + 1)
     (waiting : standing c.0 P ≡ Waits) (least : is_least_free s P t.0 ≡ true) (within : t.0 < s.can_queue) where
   stands_new : (d : ℕ) → (c.0 == d) ≡ true → standing d (Sent c n t ∷ P) ≡ Busy n t
   stands_new d is = ap (λ (b : Bool). cond b (Busy n t) (standing d P)) is
@@ -108,7 +102,7 @@ module _ (s : HostSpec) (P : List Entry) (r : Running) (runs : Runs s P r) (c : 
 
   -- no attempt had this number
   unsent : was_sent n.0 P ≡ false
-  unsent = (runs.attempts.rows n.0).0 ∙ ap is_some (row_new r.attempts.rows.items n.0 number)
+  unsent = (runs.attempts.0.rows n.0).0 ∙ ap is_some (row_new r.attempts.rows.items n.0 number)
 
   other_number : (u : ℕ) (m : ℕ) → sent_with u P ≡ m → (n.0 == m) ≡ false
   other_number u m with_tag = ne_eqb n.0 m (λ e. false≢true (sym unsent ∙ ap (λ (x : ℕ). was_sent x P) (e ∙ sym with_tag)
@@ -145,42 +139,61 @@ module _ (s : HostSpec) (P : List Entry) (r : Running) (runs : Runs s P r) (c : 
             subst (λ (v : ℕ). v < s.can_queue) tags within,
           )
 
+  -- a command that is sent now hasn't failed, and others have where they had
+  just_sent : (d : ℕ) → (c.0 == d) ≡ true → is_failed d (Sent c n t ∷ P) ≡ false
+  just_sent d is = rw is refl
+
+  sent_apart : (d : ℕ) → (c.0 == d) ≡ false → failed_since_sent d (Sent c n t ∷ P) ≡ failed_since_sent d P
+  sent_apart d isnt = rw isnt refl
+
   -- what is under way, with one attempt more
   pub sent_under_way : (row : Row) (attempts : List Row) (new : List CommandRow) → attempts ≡ r.attempts.rows.items ++ row ∷ [] → row.command ≡ c → row.tag ≡ t
       → id_at row.place r.commands.rows.items ≡ Some c → ((i : ℕ) → id_at i new ≡ id_at i r.commands.rows.items) → AreUnderWay (Sent c n t ∷ P) attempts new
   sent_under_way row attempts new rows command tag_is place ids =
-      rw rows (λ k x at lives. elim (cases_Bool (k == n.0)) as (λ _. (standing x.command.0 (Sent c n t ∷ P) ≡ Busy (record { 0 = k }) x.tag) × (id_at x.place new ≡ Some x.command)) [
+      rw rows (λ k x at lives. elim (cases_Bool (k == n.0)) as (λ _. (standing x.command.0 (Sent c n t ∷ P) ≡ Busy (record { 0 = k }) x.tag) × (id_at x.place new ≡ Some x.command) × (is_failed x.command.0 (Sent c n t ∷ P) ≡ false)) [
         | inl is ↦
             let here : k ≡ n.0 = eqb-true k n.0 is in
             let now : row ≡ x = same_Some row x (sym (row_last r.attempts.rows.items row k (here ∙ number)) ∙ at) in (
               stands_new x.command.0 (eq-eqb c.0 x.command.0 (ap (λ (y : CmdId). y.0) (sym command) ∙ ap (λ (y : Row). y.command.0) now))
                   ∙ ap (λ (j : ℕ). Busy (record { 0 = j }) t) (sym here) ∙ ap (Busy (record { 0 = k })) (sym tag_is ∙ ap (λ (y : Row). y.tag) now),
               ids x.place ∙ ap (λ (y : Row). id_at y.place r.commands.rows.items) (sym now) ∙ place ∙ ap Some (sym command) ∙ ap (λ (y : Row). Some y.command) now,
+              just_sent x.command.0 (eq-eqb c.0 x.command.0 (ap (λ (y : CmdId). y.0) (sym command) ∙ ap (λ (y : Row). y.command.0) now)),
             )
         | inr isnt ↦
             let before = runs.under_way k x (sym (row_front r.attempts.rows.items row k (λ e. false≢true (sym isnt ∙ eq-eqb k n.0 (e ∙ sym number)))) ∙ at) lives in
-            (stands_old x.command.0 (apart x.command.0 (record { 0 = k }) x.tag before.0) ∙ before.0, ids x.place ∙ before.1)
+            let far = apart x.command.0 (record { 0 = k }) x.tag before.0 in
+            (stands_old x.command.0 far ∙ before.0, ids x.place ∙ before.1, failed_alike x.command.0 P (Sent c n t ∷ P) (stands_old x.command.0 far) (sent_apart x.command.0 far) ∙ before.2)
       ])
 
   -- what is under way where that attempt was turned away at once
-  pub bounced_under_way : (row : Row) (sent bounced : List Row) (why : BusyOf) → sent ≡ r.attempts.rows.items ++ row ∷ [] → Moves n.0 phase.Bounced sent bounced
+  pub bounced_under_way : (row : Row) (sent bounced : List Row) (why : BusyOf) → sent ≡ r.attempts.rows.items ++ row ∷ [] → row.owner ≡ None → Becomes n.0 turned_away sent bounced
       → AreUnderWay (Bounced c n why ∷ Sent c n t ∷ P) bounced r.commands.rows.items
-  bounced_under_way row sent bounced why rows moves k x at lives = elim (cases_Bool (k == n.0)) as (λ _. (standing x.command.0 (Bounced c n why ∷ Sent c n t ∷ P) ≡ Busy (record { 0 = k }) x.tag) × (id_at x.place r.commands.rows.items ≡ Some x.command)) [
+  bounced_under_way row sent bounced why rows unowned moves k x at lives = elim (cases_Bool (k == n.0)) as (λ _. (standing x.command.0 (Bounced c n why ∷ Sent c n t ∷ P) ≡ Busy (record { 0 = k }) x.tag) × (id_at x.place r.commands.rows.items ≡ Some x.command) × (is_failed x.command.0 (Bounced c n why ∷ Sent c n t ∷ P) ≡ false)) [
     | inl is ↦
         let here : k ≡ n.0 = eqb-true k n.0 is in
-        let now : with_phase phase.Bounced moves.row ≡ x =
-        same_Some (with_phase phase.Bounced moves.row) x (sym (moved_here n.0 phase.Bounced sent bounced moves) ∙ ap (λ (j : ℕ). row_of j bounced) (sym here) ∙ at)
+        let now : turned_away moves.row ≡ x =
+        same_Some (turned_away moves.row) x (sym (row_here n.0 turned_away sent bounced moves) ∙ ap (λ (j : ℕ). row_of j bounced) (sym here) ∙ at)
         in
-        absurd (false≢true (ap (λ (y : Row). live_in (Some y)) now ∙ lives))
+        let last : row ≡ moves.row = same_Some row moves.row (sym (row_last r.attempts.rows.items row n.0 number) ∙ ap (row_of n.0) (sym rows) ∙ moves.was) in
+        absurd (dead_row moves.row (ap (λ (y : Row). y.owner) (sym last) ∙ unowned) (ap (λ (y : Row). live_in (Some y)) now ∙ lives))
     | inr isnt ↦
         let other : k ≢ n.0 = λ e. false≢true (sym isnt ∙ eq-eqb k n.0 e) in
         let was : row_of k r.attempts.rows.items ≡ Some x =
-        sym (row_front r.attempts.rows.items row k (λ e. other (e ∙ sym number))) ∙ ap (row_of k) (sym rows) ∙ sym (moved_other n.0 phase.Bounced sent bounced moves k other) ∙ at
+        sym (row_front r.attempts.rows.items row k (λ e. other (e ∙ sym number))) ∙ ap (row_of k) (sym rows) ∙ sym (row_other n.0 turned_away sent bounced moves k other) ∙ at
         in
         let before = runs.under_way k x was lives in
         let far = apart x.command.0 (record { 0 = k }) x.tag before.0 in
-        (ap (λ (b : Bool). cond b Waits (standing x.command.0 (Sent c n t ∷ P))) far ∙ stands_old x.command.0 far ∙ before.0, before.1)
+        let stands = ap (λ (b : Bool). cond b Waits (standing x.command.0 (Sent c n t ∷ P))) far ∙ stands_old x.command.0 far in
+        (stands ∙ before.0, before.1, failed_alike x.command.0 P (Bounced c n why ∷ Sent c n t ∷ P) stands (sent_apart x.command.0 far) ∙ before.2)
   ]
+    where
+      dead_row : (y : Row) → y.owner ≡ None → live_in (Some (turned_away y)) ≡ true → ⊥
+      dead_row y none live = by_fields y.settled y.owner none live
+        where
+          by_fields : (e : Bool) (w : Option By) → w ≡ None → false || (not false && not e && is_some w) ≡ true → ⊥
+          by_fields true w none live = cc
+          by_fields false None none live = cc
+          by_fields false (Some by) none live = cc
 
   pub is_sent : standing c.0 (Sent c n t ∷ P) ≡ Busy n t
   is_sent = stands_new c.0 (same c.0)
@@ -214,3 +227,19 @@ goes_online r i can row at =
       of.row_at,
       takes_is can.spec can.entries r.devices row.device of.row runs.devices of.row_at ∙ ap (λ (b : Bool). not b || is_ready can.spec can.entries d) (sym online) ∙ going,
     )
+
+-- then fewer commands are busy than the host has tags
+pub room_online : (r : Running) (i : ℕ) → (can : CanSend r i) → (row : CommandRow) → slice_get r.commands.rows.items i ≡ Some row → busy_count can.spec can.entries < can.spec.can_queue
+room_online r i can row at =
+    let there = goes_online r i can row at in
+    let tags = can.runs.devices.tags in
+    let room = last_of (is_running there.0.state) (not r.devices.paused) (not there.0.paused) _ there.2 in
+    let fewer : nat_lt (all_out r.devices.pool.tags) (length r.devices.pool.tags) ≡ true = (both_true (nat_lt (all_out r.devices.pool.tags) (length r.devices.pool.tags)) _ room).0 in
+    let less : all_out r.devices.pool.tags < length r.devices.pool.tags = ltb-true (all_out r.devices.pool.tags) (length r.devices.pool.tags) fewer in
+    omega (arith, less, tags.all, tags.count)
+  where
+    last_of : (a b c d : Bool) → a && b && c && d ≡ true → d ≡ true
+    last_of true true true d h = h
+    last_of true true false d h = cc
+    last_of true false c d h = cc
+    last_of false b c d h = cc

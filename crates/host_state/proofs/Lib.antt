@@ -3,3 +3,5 @@ pub mod Moving
 pub mod Chosen
 pub mod Going
 pub mod Settled
+pub mod Timed
+pub mod Failing

@@ -7,49 +7,32 @@ use Rattle.std.specs.List.{list_all}
 use Rattle.mid_base.specs.declared.host_spec.CmdSpec.{CmdSpec}
 use Rattle.mid_base.specs.declared.host_spec.LunSpec.{LunSpec}
 use Rattle.mid_base.specs.Address.{has_dev}
-use Rattle.mid_base.specs.Limits.{is_between, is_address, is_lun, is_command}
-use Rattle.attempt_table.specs.Rows.{open_at, owned_at, wanting_at}
+use Rattle.mid_base.specs.Limits.{is_between, is_address, is_lun, is_command, has_block}
 use Rattle.mid_base.specs.declared.entries.Entry.{Entry}
 use Rattle.mid_base.specs.declared.host_spec.HostSpec.{HostSpec}
-use Rattle.attempt_table.specs.declared.attempts.Attempts.{Attempts}
-use Rattle.attempt_table.specs.declared.rows.Phase.{Phase}
-use Rattle.attempt_table.specs.declared.rows.Phase.TheVariants.{Open, Answered, Bounced, Owned, Settled}
 use Rattle.attempt_table.specs.declared.rows.Row.{Row}
-use Rattle.attempt_table.specs.Rows.{row_of, live_in, with_phase, Moves}
-use Rattle.attempt_table.specs.Tells.{Tells, Says, IsSame}
+use Rattle.attempt_table.specs.Rows.{row_of, live_in, Becomes}
 use Rattle.attempt_table.proofs.Bools.{same}
-use Rattle.attempt_table.proofs.Places.{moved_here, moved_other}
+use Rattle.attempt_table.proofs.Places.{row_here, row_other}
 use Rattle.command_table.specs.declared.rows.CommandRow.{CommandRow}
 use Rattle.command_table.specs.Rows.{id_at}
 use Rattle.trace_model.specs.declared.standing.Standing.TheVariants.{Busy}
-use Rattle.trace_model.specs.Commands.{standing}
-use Rattle.host_state.specs.Runs.{AreUnderWay}
+use Rattle.trace_model.specs.Commands.{standing, is_failed}
+use Rattle.host_state.specs.HostAgrees.{AreUnderWay}
 
--- more room changes nothing that is told
-pub roomier : (s : HostSpec) (P : List Entry) (old new : Attempts) → IsSame old new → Tells s P old → Tells s P new
-roomier s P old new is tells =
-    subst (λ (x : _). Says s P new.rows.items new.tags.items new.claims.items x) (sym is.lates)
-    (subst (λ (x : _). Says s P new.rows.items new.tags.items x old.lates.items) (sym is.claims)
-    (subst (λ (x : _). Says s P new.rows.items x old.claims.items old.lates.items) (sym is.tags)
-    (subst (λ (x : _). Says s P x old.tags.items old.claims.items old.lates.items) (sym is.rows) tells)))
+-- the row is of the same command and tag
+abbrev pub IsOfSame : Row → Row → Type 0
+IsOfSame old new = (new.command ≡ old.command) × (new.place ≡ old.place) × (new.tag ≡ old.tag)
 
--- what is under way stays so where an attempt comes to another phase
-pub moves_under_way : (P : List Entry) (n : ℕ) (x : Phase) (old new : List Row) (commands : List CommandRow) → (h : Moves n x old new) → live_in (Some h.row) ≡ true
-    → AreUnderWay P old commands → AreUnderWay P new commands
-moves_under_way P n x old new commands h live under k r at lives = elim (cases_Bool (k == n)) as (λ _. (standing r.command.0 P ≡ Busy (record { 0 = k }) r.tag) × (id_at r.place commands ≡ Some r.command)) [
+-- what is under way stays so where an attempt goes on
+pub moves_under_way : (P : List Entry) (n : ℕ) (f : Row → Row) (old new : List Row) (commands : List CommandRow) → (h : Becomes n f old new) → IsOfSame h.row (f h.row)
+    → live_in (Some h.row) ≡ true → AreUnderWay P old commands → AreUnderWay P new commands
+moves_under_way P n f old new commands h kept live under k r at lives = elim (cases_Bool (k == n)) as (λ _. (standing r.command.0 P ≡ Busy (record { 0 = k }) r.tag) × (id_at r.place commands ≡ Some r.command) × (is_failed r.command.0 P ≡ false)) [
   | inl is ↦
-      let moved : with_phase x h.row ≡ r = same_Some (with_phase x h.row) r (sym (moved_here n x old new h) ∙ ap (λ (j : ℕ). row_of j new) (sym (eqb-true k n is)) ∙ at) in
-      rw (sym moved) (rw (eqb-true k n is) (under n h.row h.was live))
-  | inr isnt ↦ under k r (sym (moved_other n x old new h k (λ e. false≢true (sym isnt ∙ ap (λ (j : ℕ). j == n) e ∙ same n))) ∙ at) lives
+      let moved : f h.row ≡ r = same_Some (f h.row) r (sym (row_here n f old new h) ∙ ap (λ (j : ℕ). row_of j new) (sym (eqb-true k n is)) ∙ at) in
+      rw (sym moved) (rw (eqb-true k n is, kept.0, kept.1, kept.2) (under n h.row h.was live))
+  | inr isnt ↦ under k r (sym (row_other n f old new h k (λ e. false≢true (sym isnt ∙ ap (λ (j : ℕ). j == n) e ∙ same n))) ∙ at) lives
 ]
-
--- an attempt without an answer is under way
-pub wanting_lives : (x : Phase) → wanting_at x ≡ true → open_at x || owned_at x ≡ true
-wanting_lives Open h = refl
-wanting_lives (Answered a) h = absurd (false≢true h)
-wanting_lives (Bounced) h = absurd (false≢true h)
-wanting_lives (Owned a) h = absurd (false≢true h)
-wanting_lives (Settled a) h = absurd (false≢true h)
 
 pub both_true : (a b : Bool) → a && b ≡ true → (a ≡ true) × (b ≡ true)
 both_true true b h = (refl, h)
@@ -63,11 +46,11 @@ all_weaker p q weaker (x ∷ xs) h =
 
 -- what the limits of a spec say of commands and units
 pub housed_in : (luns : List LunSpec) (k : CmdSpec) → is_command luns k ≡ true → has_dev luns k.dev ≡ true
-housed_in luns k h = (both_true _ _ (both_true _ _ (both_true _ _ (both_true _ (nat_le k.allowed 20) h).0).0).0).0
+housed_in luns k h = (both_true _ _ (both_true _ _ (both_true _ _ (both_true _ (nat_le k.allowed 20) (both_true _ (has_block k) h).0).0).0).0).0
 
 pub lane_below : (luns : List LunSpec) (k : CmdSpec) → is_command luns k ≡ true → nat_lt k.lane.0 64 ≡ true
 lane_below luns k h =
-    let within : nat_le k.lane.0 63 ≡ true = (both_true _ _ (both_true _ _ (both_true _ (nat_le k.allowed 20) h).0).0).1 in
+    let within : nat_le k.lane.0 63 ≡ true = (both_true _ _ (both_true _ _ (both_true _ (nat_le k.allowed 20) (both_true _ (has_block k) h).0).0).0).1 in
     let bound : k.lane.0 ≤ 63 = leb-true k.lane.0 63 within in
     lt-ltb k.lane.0 64 (omega (arith, bound))
 

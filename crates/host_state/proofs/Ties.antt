@@ -1,7 +1,9 @@
 -- What the tables say together.
 use Rattle.std.proofs.Common.{◌≡◌, ◌∙◌, sym, ap, refl, ℕ, zero, suc, ◌<◌, ◌==◌, Bool, true, false, cond, List, [], ◌∷◌, length, set, Option, None, Some, arith, inl, inr}
-use Rattle.std.specs.Prelude.{slice_get, option_map, Result, Ok, Err, OnErr}
-use Rattle.std.proofs.lemmas.Bool.{cases_Bool, false≢true, eqb-true, ne_eqb}
+use Rattle.std.specs.Prelude.{slice_get, option_map, Result, Ok, Err, OnErr, ◌||◌}
+use Rattle.std.specs.List.{list_any}
+use Rattle.failure_table.specs.FailuresAgree.{knows}
+use Rattle.std.proofs.lemmas.Bool.{cases_Bool, false≢true, eq-eqb, eqb-true, ne_eqb}
 use Rattle.std.proofs.lemmas.Option.{same_Some, none-some}
 use Rattle.mid_base.specs.declared.names.CmdId.{CmdId}
 use Rattle.mid_base.specs.declared.names.DevAddr.{DevAddr}
@@ -15,21 +17,21 @@ use Rattle.mid_base.specs.Address.{same_dev}
 use Rattle.mid_base.specs.Past.{sent_for}
 use Rattle.trace_model.specs.declared.standing.Standing.{Standing}
 use Rattle.trace_model.specs.declared.standing.Standing.TheVariants.{New, Waits, Busy, Ended}
-use Rattle.trace_model.specs.Commands.{standing, holds, is_busy}
-use Rattle.trace_model.specs.Steps.{sent_with}
+use Rattle.trace_model.specs.Commands.{standing, holds, is_busy, failed_since_sent, is_failed}
+use Rattle.trace_model.specs.Tags.{sent_with}
 use Rattle.command_table.specs.declared.rows.CommandRow.{CommandRow}
 use Rattle.command_table.specs.declared.commands.Commands.{Commands}
 use Rattle.command_table.specs.Rows.{row_of as command_row, standing_in, AreFor as AreCommands, home, id_at, standing_at}
-use Rattle.command_table.specs.Follows.{Follows}
+use Rattle.command_table.specs.CommandsAgree.{CommandsAgree}
 use Rattle.command_table.proofs.Places.{both_at, command_at, get_set}
 use Rattle.command_table.proofs.Entries.{reads_at, id_is}
 use Rattle.device_table.specs.declared.rows.DeviceRow.{DeviceRow}
 use Rattle.device_table.specs.declared.devices.Devices.{Devices}
 use Rattle.device_table.specs.Rows.{AreFor as AreDevices}
-use Rattle.device_table.specs.Keeps.{Keeps, IsOf, HoldsAlone}
+use Rattle.device_table.specs.DevicesAgree.{DevicesAgree, IsOf, HoldsAlone}
 use Rattle.device_table.proofs.Places.{equal_dev}
 use Rattle.attempt_table.specs.declared.rows.Row.{Row}
-use Rattle.host_state.specs.Runs.{AreUnderWay, AreHeld}
+use Rattle.host_state.specs.HostAgrees.{AreUnderWay, AreHeld}
 
 -- the row of a command that has one stands at a place
 found_at : (rows : List CommandRow) (c : ℕ) (r : CommandRow) → command_row c rows ≡ Some r → (i : ℕ) × (slice_get rows i ≡ Some r) × (r.id.0 ≡ c)
@@ -44,7 +46,7 @@ found_at (q ∷ rows) c r at = elim (cases_Bool (q.id.0 == c)) as (λ _. (i : �
 ]
 
 -- a busy command is one of the spec's
-pub busy_at : (s : HostSpec) (P : List Entry) (t : Commands) (c : ℕ) (n : Attempt) (u : Tag) → Follows s P t → standing c P ≡ Busy n u
+pub busy_at : (s : HostSpec) (P : List Entry) (t : Commands) (c : ℕ) (n : Attempt) (u : Tag) → CommandsAgree s P t → standing c P ≡ Busy n u
     → (i : ℕ) × (k : CmdSpec) × (slice_get s.cmds i ≡ Some k) × (k.id.0 ≡ c)
 busy_at s P t c n u f busy = by_row (command_row c t.rows.items) refl (sym (f.reads c).0 ∙ busy)
   where
@@ -91,7 +93,7 @@ home_at (l ∷ luns) (r ∷ rows) d are lt = elim (cases_Bool (same_dev l.dev d)
 home_at [] (r ∷ rows) d are lt = absurd are
 home_at (l ∷ luns) [] d are lt = absurd are
 
-pub of_device : (s : HostSpec) (P : List Entry) (t : Commands) (ds : Devices) → Follows s P t → Keeps s P ds → (i : ℕ) (r : CommandRow) → slice_get t.rows.items i ≡ Some r → IsOf s ds r.id r.device
+pub of_device : (s : HostSpec) (P : List Entry) (t : Commands) (ds : Devices) → CommandsAgree s P t → DevicesAgree s P ds → (i : ℕ) (r : CommandRow) → slice_get t.rows.items i ≡ Some r → IsOf s ds r.id r.device
 of_device s P t ds f k i r at =
     let command = command_at s.luns s.cmds t.rows.items f.rows_are i r at in
     let both = both_at s.luns s.cmds t.rows.items f.rows_are i command.0 r command.1 at in
@@ -107,7 +109,7 @@ of_device s P t ds f k i r at =
       dev = there.2;
     }
 
-pub of_device_at : (s : HostSpec) (P : List Entry) (t : Commands) (ds : Devices) (f : Follows s P t) (k : Keeps s P ds) (i : ℕ) (r : CommandRow) (at : slice_get t.rows.items i ≡ Some r)
+pub of_device_at : (s : HostSpec) (P : List Entry) (t : Commands) (ds : Devices) (f : CommandsAgree s P t) (k : DevicesAgree s P ds) (i : ℕ) (r : CommandRow) (at : slice_get t.rows.items i ≡ Some r)
     → slice_get s.cmds i ≡ Some (of_device s P t ds f k i r at).command
 unfolding of_device
 of_device_at s P t ds f k i r at = (command_at s.luns s.cmds t.rows.items f.rows_are i r at).1
@@ -121,13 +123,19 @@ id_kept rows i r q j at id = elim (cases_Bool (i == j)) as (λ _. id_at j (set r
   | inr isnt ↦ ap (option_map (λ (x : CommandRow). x.id)) (get_set rows i j r q at ∙ ap (λ (b : Bool). cond b (Some q) (slice_get rows j)) isnt)
 ]
 
+-- a command that stands where it did has failed where it had
+pub failed_alike : (c : ℕ) (P Q : List Entry) → standing c Q ≡ standing c P → failed_since_sent c Q ≡ failed_since_sent c P → is_failed c Q ≡ is_failed c P
+failed_alike c P Q stands failing = rw (stands, failing) refl
+
 -- a command that isn't busy has no attempt under way
 pub idle_under_way : (P Q : List Entry) (attempts : List Row) (old new : List CommandRow) (c : ℕ) (x : Standing) → is_busy (standing c P) ≡ false
-    → ((d : ℕ) → standing d Q ≡ cond (c == d) x (standing d P)) → ((j : ℕ) → id_at j new ≡ id_at j old) → AreUnderWay P attempts old → AreUnderWay Q attempts new
-idle_under_way P Q attempts old new c x idle changed ids under n r at live =
+    → ((d : ℕ) → standing d Q ≡ cond (c == d) x (standing d P)) → ((d : ℕ) → failed_since_sent d Q ≡ failed_since_sent d P) → ((j : ℕ) → id_at j new ≡ id_at j old)
+    → AreUnderWay P attempts old → AreUnderWay Q attempts new
+idle_under_way P Q attempts old new c x idle changed failing ids under n r at live =
     let was = under n r at live in
     let apart : (c == r.command.0) ≡ false = ne_eqb c r.command.0 (λ e. false≢true (sym idle ∙ ap (λ (d : ℕ). is_busy (standing d P)) e ∙ ap is_busy was.0)) in
-    (changed r.command.0 ∙ ap (λ (b : Bool). cond b x (standing r.command.0 P)) apart ∙ was.0, ids r.place ∙ was.1)
+    let stands : standing r.command.0 Q ≡ standing r.command.0 P = changed r.command.0 ∙ ap (λ (b : Bool). cond b x (standing r.command.0 P)) apart in
+    (stands ∙ was.0, ids r.place ∙ was.1, failed_alike r.command.0 P Q stands (failing r.command.0) ∙ was.2)
 
 -- a command comes to stand where it isn't busy
 pub unheld : (s : HostSpec) (P Q : List Entry) (c : ℕ) (x : Standing) → is_busy x ≡ false → ((d : ℕ) → standing d Q ≡ cond (c == d) x (standing d P))
@@ -139,6 +147,33 @@ unheld s P Q c x idle changed with_same for_same held d n t busy = elim (cases_B
       (with_same t.0 ∙ was.0, for_same n.0 ∙ was.1, was.2)
 ]
 
+pub any_at : (p : CmdSpec → Bool) (xs : List CmdSpec) (i : ℕ) (x : CmdSpec) → slice_get xs i ≡ Some x → p x ≡ true → list_any p xs ≡ true
+any_at p [] i x at holds = absurd (none-some x at)
+any_at p (y ∷ xs) zero x at holds = ap (λ (b : Bool). b || list_any p xs) (ap p (same_Some y x at) ∙ holds)
+any_at p (y ∷ xs) (suc i) x at holds = ap (λ (b : Bool). p y || b) (any_at p xs i x at holds) ∙ or_true (p y)
+  where
+    or_true : (b : Bool) → b || true ≡ true
+    or_true true = refl
+    or_true false = refl
+
+-- the command of the spec at a place with an id
+pub spec_at : (s : HostSpec) (P : List Entry) (t : Commands) → CommandsAgree s P t → (i : ℕ) (c : CmdId) → id_at i t.rows.items ≡ Some c
+    → (k : CmdSpec) × (slice_get s.cmds i ≡ Some k) × (k.id ≡ c)
+spec_at s P t f i c is = by_row (slice_get t.rows.items i) refl is
+  where
+    by_row : (o : Option CommandRow) → slice_get t.rows.items i ≡ o → option_map (λ (r : CommandRow). r.id) o ≡ Some c → (k : CmdSpec) × (slice_get s.cmds i ≡ Some k) × (k.id ≡ c)
+    by_row None at e = absurd (none-some c e)
+    by_row (Some r) at e =
+        let command = command_at s.luns s.cmds t.rows.items f.rows_are i r at in
+        let both = both_at s.luns s.cmds t.rows.items f.rows_are i command.0 r command.1 at in
+        (command.0, command.1, sym both.0 ∙ same_Some r.id c e)
+
+-- a busy command is one of the host's
+pub is_known : (s : HostSpec) (P : List Entry) (t : Commands) (c : ℕ) (n : Attempt) (u : Tag) → CommandsAgree s P t → standing c P ≡ Busy n u → knows s c ≡ true
+is_known s P t c n u f busy =
+    let there = busy_at s P t c n u f busy in
+    any_at (λ k. k.id.0 == c) s.cmds there.0 there.1 there.2 (eq-eqb there.1.id.0 c there.3)
+
 -- the row of a command that stands so at a place
 pub stands_at : (rows : List CommandRow) (i : ℕ) (x : Standing) → standing_at i rows ≡ Some x → (r : CommandRow) × (slice_get rows i ≡ Some r) × (r.standing ≡ x)
 stands_at rows i x is = by_row (slice_get rows i) refl is
@@ -148,7 +183,7 @@ stands_at rows i x is = by_row (slice_get rows i) refl is
     by_row (Some r) at e = (r, at, same_Some r.standing x e)
 
 -- a command stands where its row says
-pub command_stands : (s : HostSpec) (P : List Entry) (t : Commands) → Follows s P t → (i : ℕ) (r : CommandRow) → slice_get t.rows.items i ≡ Some r
+pub command_stands : (s : HostSpec) (P : List Entry) (t : Commands) → CommandsAgree s P t → (i : ℕ) (r : CommandRow) → slice_get t.rows.items i ≡ Some r
     → (c : CmdId) → id_at i t.rows.items ≡ Some c → standing c.0 P ≡ r.standing
 command_stands s P t f i r at c is = ap (λ (k : CmdId). standing k.0 P) (sym (id_is i t.rows.items r c at is)) ∙ (reads_at s P t f i r at).0
 
@@ -165,11 +200,11 @@ ids_as luns (k ∷ ks) (r ∷ rs) are (suc i) = ids_as luns ks rs are.3 i
 ids_as luns [] (r ∷ rs) are i = absurd are
 ids_as luns (k ∷ ks) [] are i = absurd are
 
-pub same_ids : (s : HostSpec) (P Q : List Entry) (old new : Commands) → Follows s P old → Follows s Q new → (i : ℕ) → id_at i new.rows.items ≡ id_at i old.rows.items
+pub same_ids : (s : HostSpec) (P Q : List Entry) (old new : Commands) → CommandsAgree s P old → CommandsAgree s Q new → (i : ℕ) → id_at i new.rows.items ≡ id_at i old.rows.items
 same_ids s P Q old new f g i = ids_as s.luns s.cmds new.rows.items g.rows_are i ∙ sym (ids_as s.luns s.cmds old.rows.items f.rows_are i)
 
 -- where no command comes to stand elsewhere
-pub still_under_way : (s : HostSpec) (P : List Entry) (attempts : List Row) (old new : Commands) → Follows s P old → Follows s P new → AreUnderWay P attempts old.rows.items → AreUnderWay P attempts new.rows.items
+pub still_under_way : (s : HostSpec) (P : List Entry) (attempts : List Row) (old new : Commands) → CommandsAgree s P old → CommandsAgree s P new → AreUnderWay P attempts old.rows.items → AreUnderWay P attempts new.rows.items
 still_under_way s P attempts old new f g under n r at live =
     let was = under n r at live in
-    (was.0, same_ids s P P old new f g r.place ∙ was.1)
+    (was.0, same_ids s P P old new f g r.place ∙ was.1, was.2)

@@ -9,9 +9,9 @@ use Rattle.trace_model.specs.Devices.{is_online}
 use Rattle.trace_model.specs.Sending.{pick}
 use Rattle.command_table.specs.declared.rows.CommandRow.{CommandRow}
 use Rattle.command_table.specs.Sets.{has}
-use Rattle.device_table.specs.Keeps.{goes_in}
+use Rattle.device_table.specs.DevicesAgree.{goes_in}
 use Rattle.host_state.specs.declared.running.Running.{Running}
-use Rattle.host_state.specs.Runs.{Runs}
+use Rattle.host_state.specs.HostAgrees.{HostAgrees}
 
 -- Of the devices below `count` to which a command can go: this is the earliest of the commands that wait for them, and for
 -- which device.
@@ -46,14 +46,14 @@ IsFirstUpTo r count (Some x) = IsFirst r count x.0 x.1
 pub record CanStrand (r : Running) (i : ℕ) : Type 0 where
   pub spec : HostSpec
   pub entries : List Entry
-  pub runs : Runs spec entries r
+  pub runs : HostAgrees spec entries r
   pub picked : IsPicked spec entries r i
 
 -- the command that is picked can be sent
 pub record CanSend (r : Running) (i : ℕ) : Type 0 where
   pub spec : HostSpec
   pub entries : List Entry
-  pub runs : Runs spec entries r
+  pub runs : HostAgrees spec entries r
   pub picked : IsPicked spec entries r i
   pub online : is_online spec picked.command.dev entries ≡ true
   pub few : length r.attempts.rows.items + 1 < 2 ^ 60

@@ -6,17 +6,17 @@ ghost use Rattle.mid_base.specs.declared.host_spec.HostSpec.{HostSpec as SpecSee
 ghost use Rattle.mid_base.specs.declared.names.CmdId.{CmdId as IdSeen};
 ghost use Rattle.trace_model.specs.Sending.{next_of_lane};
 ghost use Rattle.command_table.specs.Rows.{id_at};
-ghost use Rattle.command_table.specs.Follows.{IsNext};
+ghost use Rattle.command_table.specs.CommandsAgree.{IsNext};
 
 use crate::Running;
 use mid_base::{LaneNo, NoMemory};
 
 impl Running {
-    ghost use Rattle.host_state.specs.Runs.{Runs, CanBeHandedIn};
+    ghost use Rattle.host_state.specs.HostAgrees.{HostAgrees, CanBeHandedIn};
 
     /// The place of the next command of a lane, None where each is handed in.
     pub fn next_in(&self, lane: LaneNo) -> Option<usize>
-        ensures { (s : SpecSeen) (P : List EntrySeen) → Runs s P self.now → MatchOption result (next_of_lane s P lane.0 ≡ None) (IsNext s P self.now.commands lane.0) }
+        ensures { (s : SpecSeen) (P : List EntrySeen) → HostAgrees s P self.now → MatchOption result (next_of_lane s P lane.0 ≡ None) (IsNext s P self.now.commands lane.0) }
     {
         self.commands.next_in(lane)
     }
@@ -24,8 +24,8 @@ impl Running {
     /// The next command of a lane is taken. NoMemory changes nothing.
     pub fn take(&mut self, place: usize) -> Result<(), NoMemory>
         requires { CanBeHandedIn self.old place }
-        ensures runs { OnOk result ((s : SpecSeen) (P : List EntrySeen) (c : IdSeen) → id_at place self.old.commands.rows.items ≡ Some c → Runs s P self.old → Runs s (entries.Took c ∷ P) self.new) }
-        ensures same { OnErr result ((s : SpecSeen) (P : List EntrySeen) → Runs s P self.old → Runs s P self.new) }
+        ensures runs { OnOk result ((s : SpecSeen) (P : List EntrySeen) (c : IdSeen) → id_at place self.old.commands.rows.items ≡ Some c → HostAgrees s P self.old → HostAgrees s (entries.Took c ∷ P) self.new) }
+        ensures same { OnErr result ((s : SpecSeen) (P : List EntrySeen) → HostAgrees s P self.old → HostAgrees s P self.new) }
         ensures shown { self.new.attempts.tags.items ≡ self.old.attempts.tags.items }
     {
         self.commands.take(place)
@@ -34,7 +34,7 @@ impl Running {
     /// The next command of a lane is reported and not taken.
     pub fn refuse(&mut self, place: usize)
         requires { CanBeHandedIn self.old place }
-        ensures runs { (s : SpecSeen) (P : List EntrySeen) (c : IdSeen) (a : AnswerSeen) → id_at place self.old.commands.rows.items ≡ Some c → Runs s P self.old → Runs s (entries.Told c a ∷ P) self.new }
+        ensures runs { (s : SpecSeen) (P : List EntrySeen) (c : IdSeen) (a : AnswerSeen) → id_at place self.old.commands.rows.items ≡ Some c → HostAgrees s P self.old → HostAgrees s (entries.Told c a ∷ P) self.new }
         ensures shown { self.new.attempts.tags.items ≡ self.old.attempts.tags.items }
     {
         self.commands.refuse(place);

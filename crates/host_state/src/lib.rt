@@ -1,7 +1,7 @@
 //! The running state of a host's core, which says at each moment what its journal says, without looking back.
 //!
-//! It is made of the tables of attempts, commands and devices, the present tick, and whether the host is in recovery. It is
-//! tied to the journal by one relation, `Runs`: the words of the journal's rules, looked back over, have the values that the
+//! It is made of the tables of attempts, commands, devices, deadlines and failures, and the present tick. It is
+//! tied to the journal by one relation, `HostAgrees`: the words of the journal's rules, looked back over, have the values that the
 //! running state has. Each call here says that it keeps the relation for the entries that it is for, or that its answer is
 //! what a word says. Entries of timers, aborts and recovery have no call yet.
 #![tactic(auto)]
@@ -17,3 +17,4 @@ mod times;
 
 pub use running::Running;
 pub use sending::Sending;
+pub use settling::Owned;

@@ -6,13 +6,13 @@ ghost use Rattle.trace_model.specs.Sending.{pick};
 use crate::Running;
 
 impl Running {
-    ghost use Rattle.host_state.specs.Runs.{Runs};
+    ghost use Rattle.host_state.specs.HostAgrees.{HostAgrees};
     ghost use Rattle.host_state.specs.Picks.{IsFirstUpTo, IsPicked};
 
     /// The place of the command that goes next: of those that wait and can go, the one that was taken earliest. A command
     /// can go where its device is offline, so that it is reported, or takes one more. It looks at each device once.
     pub fn pick(&self) -> Option<usize>
-        ensures { (s : SpecSeen) (P : List EntrySeen) → Runs s P self.now → MatchOption result (pick s P ≡ None) (IsPicked s P self.now) }
+        ensures { (s : SpecSeen) (P : List EntrySeen) → HostAgrees s P self.now → MatchOption result (pick s P ≡ None) (IsPicked s P self.now) }
     {
         let (order, _) = self.first_to_go()?;
         let taken = self.commands.taken_as(order)?;

@@ -5,14 +5,18 @@ ghost use Rattle.mid_base.specs.declared.host_spec.HostSpec.{HostSpec as SpecSee
 ghost use Rattle.mid_base.specs.Address.{has_dev};
 ghost use Rattle.mid_base.specs.Limits.{KeepsLimits};
 ghost use Rattle.attempt_table.specs.Rows.{row_of};
-ghost use Rattle.attempt_table.specs.Tells.{HasRoom};
+ghost use Rattle.attempt_table.specs.AttemptsAgree.{HasRoom};
 ghost use Rattle.device_table.specs.Rows.{dev_at};
+ghost use Rattle.trace_model.specs.Devices.{in_recovery};
 ghost use Rattle.trace_model.specs.Drained.{is_done};
-ghost use Rattle.trace_model.specs.Steps.{tag_states, waiting_claims, IsNextLate};
+ghost use Rattle.trace_model.specs.Tags.{tag_states};
+ghost use Rattle.trace_model.specs.Claims.{waiting_claims, IsNextLate};
 
 use attempt_table::{Attempts, Row};
 use command_table::{CommandRow, Commands};
+use deadline_table::Deadlines;
 use device_table::Devices;
+use failure_table::Failures;
 use mid_base::{Attempt, By, DevAddr, DeviceState, HostSpec, NoMemory, Tag, TagState, Tick};
 use std::alloc::Global;
 
@@ -22,25 +26,27 @@ pub struct Running {
     pub(crate) attempts: Attempts,
     pub(crate) commands: Commands,
     pub(crate) devices: Devices,
+    pub(crate) deadlines: Deadlines,
+    pub(crate) failures: Failures,
     pub(crate) ticks: u64,
-    pub(crate) recovering: bool,
 }
 
 impl Running {
-    ghost use Rattle.host_state.specs.Runs.{Runs};
+    ghost use Rattle.host_state.specs.HostAgrees.{HostAgrees};
 
     /// The state of an empty journal, for a spec within the limits.
     pub fn new(alloc: Global, spec: &HostSpec) -> Result<Running, NoMemory>
         requires { KeepsLimits spec.now }
-        ensures { IfOk result (Runs spec.now []) }
+        ensures { IfOk result (HostAgrees spec.now []) }
     {
         let luns = spec.luns.as_slice();
         Ok(Running {
             attempts: Attempts::new(alloc, spec.can_queue)?,
             commands: Commands::new(alloc, spec.cmds.as_slice(), luns)?,
             devices: Devices::new(alloc, spec.can_queue, luns)?,
+            deadlines: Deadlines::new(alloc, spec.can_queue)?,
+            failures: Failures::new(alloc, spec.can_queue)?,
             ticks: 0,
-            recovering: false,
         })
     }
 
@@ -53,36 +59,36 @@ impl Running {
 
     /// Whether the host is in recovery.
     pub fn in_recovery(&self) -> bool
-        ensures { result ≡ self.now.recovering }
+        ensures { (s : SpecSeen) (P : List EntrySeen) → HostAgrees s P self.now → in_recovery P ≡ result }
     {
-        self.recovering
+        self.failures.in_recovery()
     }
 
     /// The state of each tag, in order.
     pub fn tag_states(&self) -> &[TagState]
         ensures shown { result.now ≡ self.now.attempts.tags.items }
-        ensures states { (s : SpecSeen) (P : List EntrySeen) → Runs s P self.now → result.now ≡ tag_states s P }
+        ensures states { (s : SpecSeen) (P : List EntrySeen) → HostAgrees s P self.now → result.now ≡ tag_states s P }
     {
         self.attempts.tag_states()
     }
 
     /// The attempts that wait for their owner, each with its tag, in ascending attempts.
     pub fn waiting_claims(&self) -> &[(Tag, Attempt, By)]
-        ensures { (s : SpecSeen) (P : List EntrySeen) → Runs s P self.now → result.now ≡ waiting_claims P }
+        ensures { (s : SpecSeen) (P : List EntrySeen) → HostAgrees s P self.now → result.now ≡ waiting_claims P }
     {
         self.attempts.waiting_claims()
     }
 
     /// The least attempt with an answer that is to be ignored.
     pub fn next_late(&self) -> Option<Attempt>
-        ensures { (s : SpecSeen) (P : List EntrySeen) → Runs s P self.now → IsNextLate P result }
+        ensures { (s : SpecSeen) (P : List EntrySeen) → HostAgrees s P self.now → IsNextLate P result }
     {
         self.attempts.next_late()
     }
 
     /// Whether each command is handed in, and each that was taken is reported.
     pub fn is_drained(&self) -> bool
-        ensures { (s : SpecSeen) (P : List EntrySeen) → Runs s P self.now → list_all (is_done P) s.cmds ≡ result }
+        ensures { (s : SpecSeen) (P : List EntrySeen) → HostAgrees s P self.now → list_all (is_done P) s.cmds ≡ result }
     {
         self.commands.drained()
     }
@@ -119,7 +125,7 @@ impl Running {
 
     /// The place of a device among the spec's logical units, None where it is none of them.
     pub fn device_at(&self, dev: DevAddr) -> Option<usize>
-        ensures { (s : SpecSeen) (P : List EntrySeen) → Runs s P self.now → MatchOption result (has_dev s.luns dev ≡ false) (λ i. (dev_at i self.now.devices.rows.items ≡ Some dev) × (has_dev s.luns dev ≡ true)) }
+        ensures { (s : SpecSeen) (P : List EntrySeen) → HostAgrees s P self.now → MatchOption result (has_dev s.luns dev ≡ false) (λ i. (dev_at i self.now.devices.rows.items ≡ Some dev) × (has_dev s.luns dev ≡ true)) }
     {
         self.devices.place_of(dev)
     }
@@ -127,12 +133,14 @@ impl Running {
     /// Takes room for one attempt and one answer more. It changes nothing else, also where it fails.
     pub fn reserve(&mut self) -> Result<(), NoMemory>
         ensures room { OnOk result (HasRoom self.new.attempts) }
-        ensures same { (s : SpecSeen) (P : List EntrySeen) → Runs s P self.old → Runs s P self.new }
+        ensures same { (s : SpecSeen) (P : List EntrySeen) → HostAgrees s P self.old → HostAgrees s P self.new }
         ensures shown { self.new.attempts.tags.items ≡ self.old.attempts.tags.items }
         ensures commands { self.new.commands ≡ self.old.commands }
         ensures devices { self.new.devices ≡ self.old.devices }
+        ensures deadlines { self.new.deadlines ≡ self.old.deadlines }
         ensures attempts { self.new.attempts.rows.items ≡ self.old.attempts.rows.items }
-        ensures rest { (self.new.ticks ≡ self.old.ticks) × (self.new.recovering ≡ self.old.recovering) }
+        ensures failures { self.new.failures ≡ self.old.failures }
+        ensures ticks { self.new.ticks ≡ self.old.ticks }
     {
         self.attempts.reserve()
     }

@@ -1,4 +1,4 @@
-ghost use Rattle.std.specs.Prelude.{◌≡◌, ℕ, true, false, List, ◌∷◌, Some, OnOk, OnErr, slice_get, slice_set};
+ghost use Rattle.std.specs.Prelude.{◌≡◌, ◌||◌, ℕ, true, false, List, ◌∷◌, Some, OnOk, OnErr, MatchOption, is_none, slice_get, slice_set};
 ghost use Rattle.mid_base.specs.declared.answers.Answer.{Answer as AnswerSeen};
 ghost use Rattle.mid_base.specs.declared.answers.By.TheVariants.{Answer as ByAnswer};
 ghost use Rattle.mid_base.specs.declared.answers.Disp.{Disp as DispSeen};
@@ -6,43 +6,69 @@ ghost use Rattle.mid_base.specs.declared.answers.TagState.TheVariants as tag;
 ghost use Rattle.mid_base.specs.declared.entries.Entry.{Entry as EntrySeen};
 ghost use Rattle.mid_base.specs.declared.entries.Entry.TheVariants as entries;
 ghost use Rattle.mid_base.specs.declared.host_spec.HostSpec.{HostSpec as SpecSeen};
-ghost use Rattle.attempt_table.specs.Tells.{HasRoom};
+ghost use Rattle.trace_model.specs.Attempts.{owner, is_settled};
+ghost use Rattle.attempt_table.specs.AttemptsAgree.{HasRoom};
 
 use crate::Running;
 use attempt_table::Row;
-use mid_base::{Answer, Attempt, NoMemory};
+use mid_base::{Answer, Attempt, By, NoMemory};
+
+/// An attempt that its answer owns and that isn't settled.
+#[derive(Clone, Copy, PartialEq, Eq, Debug)]
+pub struct Owned {
+    pub row: Row,
+    pub answer: Answer,
+}
 
 impl Running {
-    ghost use Rattle.host_state.specs.Runs.{Runs, IsAnswered, IsOwnedRow, HasRetries, IsFreed};
+    ghost use Rattle.host_state.specs.HostAgrees.{HostAgrees, IsAnswered, IsOwned, IsOwnedRow, HasRetries, IsFreed};
 
     /// An answer came: the first one of an open attempt, or one that is to be ignored.
     pub fn answer(&mut self, n: Attempt, a: Answer)
         requires { HasRoom self.old.attempts }
-        ensures runs { (s : SpecSeen) (P : List EntrySeen) → Runs s P self.old → Runs s (entries.Ready n a ∷ P) self.new }
+        ensures runs { (s : SpecSeen) (P : List EntrySeen) → HostAgrees s P self.old → HostAgrees s (entries.Ready n a ∷ P) self.new }
         ensures shown { self.new.attempts.tags.items ≡ self.old.attempts.tags.items }
     {
         self.attempts.answer(n, a);
     }
 
+    /// The attempt's row and its answer, where the answer owns it and it isn't settled.
+    pub fn owned(&self, n: Attempt) -> Option<Owned>
+        ensures { (s : SpecSeen) (P : List EntrySeen) → HostAgrees s P self.now → MatchOption result (is_none (owner n.0 P) || is_settled n.0 P ≡ true) (λ o. IsOwned self.now n o.row o.answer) }
+    {
+        let Some(row) = self.attempts.row(n) else {
+            return None;
+        };
+        if !row.is_owned() {
+            return None;
+        }
+        let Some(answer) = self.attempts.answer_of(n) else {
+            return None;
+        };
+        Some(Owned { row, answer })
+    }
+
     /// The answer owns the attempt.
     pub fn own(&mut self, n: Attempt)
         requires { IsAnswered self.old n }
-        ensures runs { (s : SpecSeen) (P : List EntrySeen) → Runs s P self.old → Runs s (entries.Owned n ByAnswer ∷ P) self.new }
-        ensures shown { (s : SpecSeen) (P : List EntrySeen) → Runs s P self.old → (t : ℕ) × (slice_get self.old.attempts.tags.items t ≡ Some (tag.Armed n)) × (self.new.attempts.tags.items ≡ slice_set self.old.attempts.tags.items t (tag.Owned n ByAnswer)) }
+        ensures runs { (s : SpecSeen) (P : List EntrySeen) → HostAgrees s P self.old → HostAgrees s (entries.Owned n ByAnswer ∷ P) self.new }
+        ensures shown { (s : SpecSeen) (P : List EntrySeen) → HostAgrees s P self.old → (t : ℕ) × (slice_get self.old.attempts.tags.items t ≡ Some (tag.Armed n)) × (self.new.attempts.tags.items ≡ slice_set self.old.attempts.tags.items t (tag.Owned n ByAnswer)) }
     {
-        self.attempts.own(n);
+        self.attempts.own(n, By::Answer);
+        self.deadlines.own(n);
     }
 
     /// The answer that owns an attempt was judged, and the command is reported.
     pub fn report(&mut self, n: Attempt, row: Row, a: Answer)
         requires { IsOwnedRow self.old n row a }
-        ensures runs { (s : SpecSeen) (P : List EntrySeen) (d : DispSeen) (x : AnswerSeen) → Runs s P self.old → Runs s (entries.Told row.command x ∷ entries.Judged row.command n d ∷ P) self.new }
+        ensures runs { (s : SpecSeen) (P : List EntrySeen) (d : DispSeen) (x : AnswerSeen) → HostAgrees s P self.old → HostAgrees s (entries.Told row.command x ∷ entries.Judged row.command n d ∷ P) self.new }
         ensures shown { IsFreed self.old.attempts.tags.items self.new.attempts.tags.items n row.tag }
     {
         let device = self.commands.row(row.place).device;
         self.commands.tell(row.place);
         self.devices.judged(device, &a);
         self.devices.tell(row.tag);
+        self.failures.tell(row.command);
         self.attempts.settle(n);
     }
 
@@ -51,15 +77,16 @@ impl Running {
     pub fn again(&mut self, n: Attempt, row: Row, a: Answer, counted: bool) -> Result<(), NoMemory>
         requires owned { IsOwnedRow self.old n row a }
         requires few { counted ≡ true → HasRetries self.old row.place }
-        ensures runs { OnOk result ((s : SpecSeen) (P : List EntrySeen) (d : DispSeen) → Runs s P self.old → Runs s (entries.Again row.command counted ∷ entries.Judged row.command n d ∷ P) self.new) }
+        ensures runs { OnOk result ((s : SpecSeen) (P : List EntrySeen) (d : DispSeen) → HostAgrees s P self.old → HostAgrees s (entries.Again row.command counted ∷ entries.Judged row.command n d ∷ P) self.new) }
         ensures shown { OnOk result (IsFreed self.old.attempts.tags.items self.new.attempts.tags.items n row.tag) }
-        ensures same { OnErr result ((s : SpecSeen) (P : List EntrySeen) → Runs s P self.old → Runs s P self.new) }
+        ensures same { OnErr result ((s : SpecSeen) (P : List EntrySeen) → HostAgrees s P self.old → HostAgrees s P self.new) }
         ensures kept { OnErr result (self.new.attempts.tags.items ≡ self.old.attempts.tags.items) }
     {
         let device = self.commands.row(row.place).device;
         self.commands.again(row.place, counted)?;
         self.devices.judged(device, &a);
         self.devices.again(device, row.tag, counted);
+        self.failures.again(row.command);
         self.attempts.settle(n);
         Ok(())
     }
@@ -67,12 +94,12 @@ impl Running {
     /// The answer that owns an attempt was judged, and the command has failed: the host is in recovery.
     pub fn fail(&mut self, n: Attempt, row: Row, a: Answer)
         requires { IsOwnedRow self.old n row a }
-        ensures runs { (s : SpecSeen) (P : List EntrySeen) (d : DispSeen) → Runs s P self.old → Runs s (entries.Failed row.command n false ∷ entries.Judged row.command n d ∷ P) self.new }
+        ensures runs { (s : SpecSeen) (P : List EntrySeen) (d : DispSeen) → HostAgrees s P self.old → HostAgrees s (entries.Failed row.command n false ∷ entries.Judged row.command n d ∷ P) self.new }
         ensures shown { IsFreed self.old.attempts.tags.items self.new.attempts.tags.items n row.tag }
     {
         let device = self.commands.row(row.place).device;
         self.devices.judged(device, &a);
         self.attempts.settle(n);
-        self.recovering = true;
+        self.failures.fail(row.command, n, false);
     }
 }

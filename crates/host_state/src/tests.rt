@@ -1,4 +1,5 @@
-ghost use Rattle.std.specs.Prelude.{◌≡◌, IfOk};
+ghost use Rattle.std.specs.Prelude.{◌≡◌, [], ◌∷◌, IfOk};
+ghost use Rattle.mid_base.specs.Bytes.{cdb_list};
 ghost use Rattle.mid_base.specs.Limits.{KeepsLimits};
 
 use crate::Running;
@@ -37,6 +38,7 @@ fn unit(dev: DevAddr) -> LunSpec
 fn command(id: u32, lane: u8, dev: DevAddr) -> CmdSpec
     ensures names { (result.id.0 ≡ id) × (result.lane.0 ≡ lane) × (result.dev ≡ dev) }
     ensures limits { (result.timeout ≡ 30) × (result.allowed ≡ 5) }
+    ensures block { cdb_list result.cdb ≡ 0 ∷ [] }
 {
     CmdSpec {
         id: CmdId(id),

@@ -1,4 +1,4 @@
-ghost use Rattle.std.specs.Prelude.{◌≡◌, ◌<◌, ◌^◌, ◌-◌, ◌||◌, ◌&&◌, List, ◌∷◌, Some, nat_lt, length};
+ghost use Rattle.std.specs.Prelude.{◌≡◌, ◌<◌, ◌^◌, ◌-◌, ◌||◌, ◌&&◌, false, List, ◌∷◌, Some, nat_lt, length};
 ghost use Rattle.std.specs.List.{list_any};
 ghost use Rattle.mid_base.specs.declared.entries.Entry.{Entry as EntrySeen};
 ghost use Rattle.mid_base.specs.declared.entries.Entry.TheVariants as entries;
@@ -8,29 +8,29 @@ ghost use Rattle.trace_model.specs.Time.{is_expired};
 ghost use Rattle.device_table.specs.Rows.{dev_at};
 
 use crate::Running;
-use mid_base::{DeviceState, Tick};
+use mid_base::{By, DeviceState, Tick};
 
 impl Running {
-    ghost use Rattle.host_state.specs.Runs.{Runs};
+    ghost use Rattle.host_state.specs.HostAgrees.{HostAgrees};
 
     /// Whether an attempt waits for its owner, or an answer is to be ignored.
     pub fn has_answer_waiting(&self) -> bool
-        ensures { (s : SpecSeen) (P : List EntrySeen) → Runs s P self.now → (list_any (λ n. is_open n P && is_answered n P) (attempts P) || list_any (λ n. nat_lt 0 (late n P)) (answered P)) ≡ result }
+        ensures { (s : SpecSeen) (P : List EntrySeen) → HostAgrees s P self.now → (list_any (λ n. is_open n P && is_answered n P) (attempts P) || list_any (λ n. nat_lt 0 (late n P)) (answered P)) ≡ result }
     {
-        self.attempts.has_claim() || self.attempts.has_late()
+        self.attempts.has_claim(By::Answer) || self.attempts.has_late()
     }
 
     /// Whether the time of an open attempt is up.
     pub fn has_expired(&self) -> bool
-        ensures { (s : SpecSeen) (P : List EntrySeen) → Runs s P self.now → list_any (λ n. is_expired s P n || (is_open n P && is_due n P)) (attempts P) ≡ result }
+        ensures { (s : SpecSeen) (P : List EntrySeen) → HostAgrees s P self.now → list_any (λ n. is_expired s P n || (is_open n P && is_due n P)) (attempts P) ≡ result }
     {
-        self.attempts.has_expired(Tick(self.ticks))
+        self.deadlines.has_due(Tick(self.ticks)) || self.attempts.has_claim(By::Expiry)
     }
 
-    /// Time goes on by one tick, and all pauses end.
+    /// Time goes on by one tick, and all pauses end. No attempt's time may be up.
     pub fn tick(&mut self)
         requires { self.old.ticks < 2 ^ 60 - 1 }
-        ensures runs { (s : SpecSeen) (P : List EntrySeen) → Runs s P self.old → Runs s (entries.Tick ∷ P) self.new }
+        ensures runs { (s : SpecSeen) (P : List EntrySeen) → list_any (is_expired s P) (attempts P) ≡ false → HostAgrees s P self.old → HostAgrees s (entries.Tick ∷ P) self.new }
         ensures shown { self.new.attempts.tags.items ≡ self.old.attempts.tags.items }
     {
         self.ticks += 1;
@@ -40,7 +40,7 @@ impl Running {
     /// The device at a place goes to a state.
     pub fn set_state(&mut self, place: usize, state: DeviceState)
         requires { place < length self.old.devices.rows.items }
-        ensures runs { (s : SpecSeen) (P : List EntrySeen) (d : _) → dev_at place self.old.devices.rows.items ≡ Some d → Runs s P self.old → Runs s (entries.State d state ∷ P) self.new }
+        ensures runs { (s : SpecSeen) (P : List EntrySeen) (d : _) → dev_at place self.old.devices.rows.items ≡ Some d → HostAgrees s P self.old → HostAgrees s (entries.State d state ∷ P) self.new }
         ensures shown { self.new.attempts.tags.items ≡ self.old.attempts.tags.items }
     {
         self.devices.set_state(place, state);

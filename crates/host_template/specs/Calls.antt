@@ -18,7 +18,7 @@ use Rattle.mid_base.specs.declared.host_spec.CmdSpec.{CmdSpec}
 use Rattle.mid_base.specs.declared.host_spec.HostSpec.{HostSpec}
 use Rattle.mid_base.specs.Answers.{said_good}
 use Rattle.mid_base.specs.Bytes.{sense_list}
-use Rattle.mid_base.specs.Callbacks.{has_level}
+use Rattle.mid_base.specs.Levels.{has_level}
 use Rattle.mid_base.specs.Past.{ticks, was_sent, sent_for, attempt_of, find_command}
 use Rattle.sense_data.specs.Grammar.{is_valid_sense}
 use Rattle.host_template.specs.declared.queued.Queued.{Queued}
@@ -27,7 +27,8 @@ use Rattle.host_template.specs.declared.says.EhSay.{EhSay}
 use Rattle.host_template.specs.declared.says.EhSay.TheVariants.{Success, Failed}
 use Rattle.host_template.specs.declared.says.TimerSay.{TimerSay}
 use Rattle.host_template.specs.declared.says.TimerSay.TheVariants.{Done, ResetTimer, NotHandled}
-use Rattle.host_template.specs.Probes.{request_sense, taken}
+use Rattle.mid_base.specs.Codes.{request_sense}
+use Rattle.host_template.specs.Probes.{taken}
 use Rattle.host_template.specs.Standing.{Before, Standing, DataIn}
 
 -- `queue` fits: it is the journal's tick, the attempt is new, and its command is one of the spec's with this device, CDB

@@ -5,8 +5,8 @@ use Rattle.mid_base.specs.declared.entries.Entry.{Entry}
 use Rattle.mid_base.specs.declared.entries.Entry.TheVariants.{Sent, Bounced, Ready, Due, Longer, DoneSaid, Aborted, Sensed, Act, Probe, Tick}
 use Rattle.mid_base.specs.declared.host_spec.HostSpec.{HostSpec}
 use Rattle.mid_base.specs.Past.{ticks}
-use Rattle.mid_base.specs.Callbacks.{has_level}
-use Rattle.host_template.specs.Probes.{inquiry, report_luns}
+use Rattle.mid_base.specs.Levels.{has_level}
+use Rattle.mid_base.specs.Codes.{inquiry, report_luns}
 use Rattle.host_template.specs.Standing.{Before, Standing, earlier, probes}
 
 -- The entry tells nothing of a lower layer: it comes of none of its calls. An abort or a reset without its callback isn't

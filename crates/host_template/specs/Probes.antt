@@ -4,22 +4,7 @@ use Rattle.mid_base.specs.declared.bytes.CdbBytes.{CdbBytes}
 use Rattle.mid_base.specs.declared.answers.ProbeSay.{ProbeSay}
 use Rattle.mid_base.specs.declared.answers.ProbeSay.TheVariants.{Answered, Silent}
 use Rattle.mid_base.specs.Bytes.{cdb_list}
-
--- Operation codes (SPC-4 and SBC-3).
-abbrev pub test_unit_ready : ℕ
-test_unit_ready = 0
-
-abbrev pub request_sense : ℕ
-request_sense = 3
-
-abbrev pub inquiry : ℕ
-inquiry = 18
-
-abbrev pub start_stop_unit : ℕ
-start_stop_unit = 27
-
-abbrev pub report_luns : ℕ
-report_luns = 160
+use Rattle.mid_base.specs.Codes.{test_unit_ready, request_sense, inquiry, start_stop_unit, report_luns}
 
 -- the CDB of each: REQUEST SENSE for at most 252 bytes, INQUIRY for at most 36, START STOP UNIT with its START bit, and
 -- REPORT LUNS for at most 2,056 (SPC-4 6.6, 6.33, 6.39, 6.47; SBC-3 5.25)

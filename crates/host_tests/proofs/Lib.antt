@@ -1,3 +1,5 @@
 pub mod Numbers
 pub mod Leaves
 pub mod Turns
+pub mod Entering
+pub mod Owners

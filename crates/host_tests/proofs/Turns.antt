@@ -1,5 +1,5 @@
 -- What turns do to what a seat knows.
-use Rattle.std.proofs.Common.{◌≡◌, ℕ, ◌+◌, [], ◌∷◌, ◌++◌, sym, refl, ap, ◌∙◌, subst, arith, ⊎_elim, inl, append_assoc}
+use Rattle.std.proofs.Common.{◌≡◌, ℕ, ◌+◌, max, length, [], ◌∷◌, ◌++◌, sym, refl, ap, ◌∙◌, subst, arith, ⊎_elim, inl, append_assoc}
 use mathlib.Core.Logic.{dite}
 use native.Mathlib.Decide.{ℕ_discrete}
 use Rattle.mid_base.specs.declared.answers.Answer.{Answer}
@@ -13,6 +13,7 @@ use Rattle.host_words.specs.declared.words.Claim.TheVariants.{Won, Lost}
 use Rattle.host_words.specs.declared.view.View.{View}
 use Rattle.host_words.specs.Journals.{Journal, IsPrefix, In, sent, HasSent, Tells, HasCause}
 use Rattle.host_words.specs.declared.view.Stage.TheVariants.{Away}
+use Rattle.host_words.specs.Views.{grown}
 use Rattle.host_words.specs.Seats.{Answers}
 use Rattle.host_words.proofs.Owning.{in_second, sent_on, cause_on, same_attempt}
 use Rattle.host_words.proofs.Turning.{prefix_refl, prefix_trans}
@@ -107,3 +108,8 @@ pub told_more : (k : ℕ) (u v : Journal) (n : Attempt) → IsPrefix u v → All
 told_more k u v n p all is told =
     let same : n ≡ record { 0 = k + 1 } = same_attempt n (record { 0 = k + 1 }) is in
     next_told k v (more_told k u v p all) (subst (λ (m : Attempt). HasCause v k m ByAnswer) same told.0) (subst (λ (m : Attempt). HasCause v k m ByExpiry) same told.1)
+
+pub grown_length : (xs ys : Journal) → length (grown xs ys) ≡ max (length xs) (length ys)
+grown_length [] ys = omega arith
+grown_length (x ∷ xs) [] = omega arith
+grown_length (x ∷ xs) (y ∷ ys) = omega (arith, grown_length xs ys)

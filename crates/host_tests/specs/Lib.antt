@@ -1,4 +1,5 @@
 pub mod Attempts
 pub mod Desks
+pub mod Entering
 pub mod Places
 pub mod Turned

@@ -1,6 +1,7 @@
 -- The places of a journal that turns fill.
-use Rattle.std.specs.Prelude.{◌≡◌, [], ◌∷◌, ◌++◌, length, max}
+use Rattle.std.specs.Prelude.{◌≡◌, List, [], ◌∷◌, ◌++◌, length, max}
 use Rattle.mid_base.specs.declared.entries.Entry.TheVariants.{EhBegin, EhEnd}
+use Rattle.host_words.specs.declared.view.Range.{Range}
 use Rattle.host_words.specs.declared.view.View.{View}
 use Rattle.host_words.specs.Views.{range, joined}
 use Rattle.host_tests.specs.declared.places.Places.{Places}
@@ -17,3 +18,7 @@ BothFill v w p x = (x.mine ≡ (v.mine ++ range p.0.from p.0.to ∷ []) ++ (w.mi
 -- a turn of v noted the beginning of recovery, and one of w its end, at these places; then v took w in
 abbrev pub TwoTurns : View → View → Places × Places → View → Type 0
 TwoTurns v w p x = (v' : View) × (w' : View) × Added v EhBegin v' × Fills v p.0 v' × Added w EhEnd w' × Fills w p.1 w' × (x ≡ joined v' w')
+
+-- what three seats have filled that have made turns at these places
+abbrev pub ranges_of_three : View → View → View → Places → Places → Places → List Range
+ranges_of_three u v w p q r = ((u.mine ++ range p.from p.to ∷ []) ++ (v.mine ++ range q.from q.to ∷ [])) ++ (w.mine ++ range r.from r.to ∷ [])

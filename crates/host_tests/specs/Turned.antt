@@ -1,5 +1,5 @@
 -- What a turn does to what a seat knows.
-use Rattle.std.specs.Prelude.{◌≡◌, ◌<◌, ◌≤◌, ◌+◌, ℕ, [], ◌∷◌, ◌++◌}
+use Rattle.std.specs.Prelude.{◌≡◌, ◌<◌, ◌≤◌, ◌+◌, ◌^◌, ℕ, [], ◌∷◌, ◌++◌}
 use Rattle.mid_base.specs.declared.answers.By.TheVariants.{Answer, Expiry}
 use Rattle.mid_base.specs.declared.entries.Entry.{Entry}
 use Rattle.mid_base.specs.declared.names.Attempt.{Attempt}
@@ -51,3 +51,7 @@ AllTold k j = (i : ℕ) → i < k → IsTold j i (record { 0 = i + 1 })
 -- it may claim the attempts 1 to 1000 under the tags 0 to 999
 abbrev pub IsReady : HostTable Desk → HostSeat Desk → Type 0
 IsReady table seat = IsIdle table seat × (1000 ≤ tag_count table) × AllTold 1000 (view seat).seen
+
+-- it may claim attempt n under tag 0, by either side
+abbrev pub MayEnd : HostTable Desk → HostSeat Desk → Attempt → Type 0
+MayEnd table seat n = IsIdle table seat × (0 < tag_count table) × (n.0 < 2 ^ 60) × IsTold (view seat).seen 0 n

@@ -1,10 +1,7 @@
 ghost use Rattle.std.specs.Prelude.{◌≡◌, ◌<◌, ◌^◌, OnOk, IfOk, IfSome};
 ghost use Rattle.mid_base.specs.declared.answers.By.{By};
 ghost use Rattle.host_words.specs.Journals.{HasSent, HasCause};
-ghost use Rattle.host_words.specs.Words.{claimed_word};
-ghost use Rattle.host_words.specs.Views.{released_of};
-ghost use Rattle.host_words.specs.Leaving.{IsShownClaimed};
-ghost use Rattle.host_words.specs.Seats.{view, turn, tag_count, IsSeatOf, IsSameTable, IsHolding, GoesOn};
+ghost use Rattle.host_words.specs.Seats.{view, tag_count, IsSameTable};
 ghost use Rattle.host_tests.specs.Desks.{entry_of};
 ghost use Rattle.host_tests.specs.Turned.{Turned, Added, IsTold, IsIdle, IsBack};
 
@@ -125,48 +122,4 @@ pub fn sent_and_told<R: Wait>(
     answered(rt, table, seat, t, n, answer)?;
     overdue(rt, table, seat, t, n)?;
     Ok(Some(n))
-}
-
-// Frees a tag for the claim that a look of this turn showed.
-fn released(table: &HostTable<Desk>, seat: &mut HostSeat<Desk>, t: Tag, n: Attempt, by: By)
-    requires table { IsSeatOf table.now seat.old }
-    requires turn { IsHolding seat.old }
-    requires tag { t.0 < tag_count table.now }
-    requires shown { IsShownClaimed (turn seat.old) t.0 n by }
-    ensures { GoesOn seat.old (released_of (turn seat.old) t.0 (claimed_word n by)) seat.new }
-{
-    let _ = (n, by);
-    table.release(seat, t);
-}
-
-/// A turn that looks at the word of a tag, and where it is claimed enters the owner, settles the attempt and frees the
-/// tag. False where it isn't.
-pub fn settled<R: Wait>(
-    rt: &R,
-    table: &HostTable<Desk>,
-    seat: &mut HostSeat<Desk>,
-    t: Tag,
-) -> Result<bool, NoMemory>
-    requires seat { IsIdle table.now seat.old }
-    requires tag { t.0 < tag_count table.now }
-    ensures table { IsSameTable seat.old seat.new }
-    ensures turn { Turned (view seat.old) (view seat.new) }
-{
-    let mut desk = table.enter(rt, seat);
-    let word = table.look(seat, t);
-    match desk.settle(t, word) {
-        Ok(Some((n, by))) => {
-            released(table, seat, t, n, by);
-            table.leave(seat, desk);
-            Ok(true)
-        }
-        Ok(None) => {
-            table.leave(seat, desk);
-            Ok(false)
-        }
-        Err(_) => {
-            table.leave(seat, desk);
-            Err(NoMemory)
-        }
-    }
 }

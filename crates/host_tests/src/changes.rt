@@ -1,10 +1,12 @@
-ghost use Rattle.std.specs.Prelude.{◌≡◌, ◌<◌, ◌≤◌, ◌++◌, [], ◌∷◌, IfOk, IfSome, IsTrue, OnOk, OnErr, Some, length, replicate, slice_get, slice_set};
+ghost use Rattle.std.specs.Prelude.{◌≡◌, ◌<◌, ◌≤◌, ◌++◌, [], ◌∷◌, IfOk, IsTrue, MatchOption, OnOk, OnErr, Some, length, replicate, slice_get, slice_set};
+ghost use Rattle.std.specs.List.{list_any};
 ghost use Rattle.mid_base.specs.declared.answers.TagState.{TagState};
-ghost use Rattle.host_words.specs.Words.{claimed_word};
-ghost use Rattle.host_words.specs.Views.{begun};
+ghost use Rattle.host_words.specs.Words.{claimed_word, Fits};
+ghost use Rattle.host_words.specs.Views.{begun, showing};
 ghost use Rattle.host_words.specs.Leaving.{MayLeave};
-ghost use Rattle.host_tests.specs.Attempts.{number};
-ghost use Rattle.host_tests.specs.Desks.{entry_of, Sends, Settles};
+ghost use Rattle.host_tests.specs.Attempts.{number, same_by, is_owner, is_left_to};
+ghost use Rattle.host_tests.specs.Desks.{entry_of, begins, ClaimsNone, Sends, Owns, Keeps, Settles, Frees};
+ghost use Rattle.host_tests.specs.Entering.{OwnerAdded};
 
 use crate::{Desk, Note};
 use host_words::WordSeen;
@@ -44,6 +46,12 @@ impl Desk {
         ensures { result.now ≡ self.now.entries.items }
     {
         self.entries.as_slice()
+    }
+
+    pub fn tags(&self) -> &[TagState]
+        ensures { result.now ≡ self.now.tags.items }
+    {
+        self.tags.as_slice()
     }
 
     // Puts an entry behind the others.
@@ -111,22 +119,54 @@ impl Desk {
         }
     }
 
-    // Enters the owner of the tag's attempt where its word is claimed, and settles it.
+    // Enters the owner of an attempt, unless it stands already.
+    fn enter_owner(&mut self, n: Attempt, by: By) -> Result<(), NoMemory>
+        ensures rest { (self.new.about ≡ self.old.about) × (self.new.tags.items ≡ self.old.tags.items) }
+        ensures ok { OnOk result (OwnerAdded self.old.entries.items n by self.new.entries.items) }
+        ensures err { OnErr result (self.new.entries.items ≡ self.old.entries.items) }
+    {
+        if has_owner(self.entries.as_slice(), n, by) {
+            return Ok(());
+        }
+        self.put(Entry::Owned(n, by), self.last.max(n.0))
+    }
+
+    // Enters the owner whom a claimed word names, and leaves the tag to it.
+    pub(crate) fn own(&mut self, t: Tag, word: WordSeen) -> Result<Option<(Attempt, By)>, NoMemory>
+        requires tag { t.0 < length self.old.tags.items }
+        requires fits { (had : TagState) → slice_get self.old.tags.items t.0 ≡ Some had → Fits had word }
+        ensures about { self.new.about ≡ self.old.about }
+        ensures owns { Owns self.old.entries.items word result self.new.entries.items }
+        ensures keeps { Keeps self.old t result self.new }
+        ensures may { MayLeave (showing (begins self.old) t.0 word) self.new.entries.items self.new.tags.items }
+    {
+        let Some((n, by)) = owner_of(word) else {
+            return Ok(None);
+        };
+        match self.enter_owner(n, by) {
+            Ok(()) => {
+                self.set_tag(t, TagState::Owned(n, by));
+                Ok(Some((n, by)))
+            }
+            Err(_) => Err(NoMemory),
+        }
+    }
+
+    // Enters the owner whom a claimed word names, and frees the tag.
     pub(crate) fn settle(
         &mut self,
         t: Tag,
         word: WordSeen,
     ) -> Result<Option<(Attempt, By)>, NoMemory>
+        requires tag { t.0 < length self.old.tags.items }
         ensures about { self.new.about ≡ self.old.about }
+        ensures owns { Owns self.old.entries.items word result self.new.entries.items }
         ensures settles { Settles self.old t word result self.new }
     {
         let Some((n, by)) = owner_of(word) else {
             return Ok(None);
         };
-        if t.0 as usize >= self.tags.len() {
-            return Ok(None);
-        }
-        match self.put(Entry::Owned(n, by), self.last.max(n.0)) {
+        match self.enter_owner(n, by) {
             Ok(()) => {
                 self.set_tag(t, TagState::Free);
                 Ok(Some((n, by)))
@@ -134,10 +174,56 @@ impl Desk {
             Err(_) => Err(NoMemory),
         }
     }
+
+    fn is_left_to(&self, t: Tag, n: Attempt, by: By) -> bool
+        ensures { result ≡ is_left_to n by (slice_get self.now.tags.items t.0) }
+    {
+        match self.tags.get(t.0 as usize) {
+            Some(TagState::Owned(m, b)) => m.0 == n.0 && is_by(*b, by),
+            _ => false,
+        }
+    }
+
+    // Frees a tag that was left to the owner of its attempt.
+    pub(crate) fn free(&mut self, t: Tag, n: Attempt, by: By) -> bool
+        ensures rest { (self.new.about ≡ self.old.about) × (self.new.entries.items ≡ self.old.entries.items) }
+        ensures frees { Frees self.old t n by result self.new }
+    {
+        if !self.is_left_to(t, n, by) {
+            return false;
+        }
+        self.set_tag(t, TagState::Free);
+        true
+    }
+}
+
+fn is_by(a: By, b: By) -> bool
+    ensures { result ≡ same_by a b }
+{
+    match (a, b) {
+        (By::Answer, By::Answer) => true,
+        (By::Expiry, By::Expiry) => true,
+        _ => false,
+    }
+}
+
+fn gives_owner(entry: &Entry, n: Attempt, by: By) -> bool
+    ensures { result ≡ is_owner n by entry.now }
+{
+    match entry {
+        Entry::Owned(m, b) => m.0 == n.0 && is_by(*b, by),
+        _ => false,
+    }
+}
+
+fn has_owner(entries: &[Entry], n: Attempt, by: By) -> bool
+    ensures { result ≡ list_any (is_owner n by) entries.now }
+{
+    entries.iter().any(|entry| gives_owner(entry, n, by))
 }
 
 fn owner_of(word: WordSeen) -> Option<(Attempt, By)>
-    ensures { IfSome result (λ o. word ≡ claimed_word o.0 o.1) }
+    ensures { MatchOption result (ClaimsNone word) (λ o. word ≡ claimed_word o.0 o.1) }
 {
     match word {
         WordSeen::Done(n) => Some((n, By::Answer)),

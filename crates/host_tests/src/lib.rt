@@ -8,11 +8,13 @@ mod callers;
 mod changes;
 mod desk;
 mod places;
+mod settling;
 #[cfg(test)]
 mod tests;
 mod workers;
 
-pub use callers::{answered, made_note, overdue, sent, sent_and_told, settled};
+pub use callers::{answered, made_note, overdue, sent, sent_and_told};
 pub use desk::{Desk, Note};
-pub use places::{Places, placed_note, two_turns};
+pub use places::{Places, closed_after_three, placed_note, two_turns};
+pub use settling::{claimed_and_settled, freed, late_claim, owned, settled, settled_in_two_turns};
 pub use workers::{claimed_all, filled, sent_all};

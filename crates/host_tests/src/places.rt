@@ -1,7 +1,8 @@
-ghost use Rattle.std.specs.Prelude.{◌≡◌, ◌+◌, IfOk};
+ghost use Rattle.std.specs.Prelude.{◌≡◌, ◌+◌, IfOk, length};
+ghost use Rattle.host_words.specs.Places.{AreApart};
 ghost use Rattle.host_words.specs.Seats.{view, IsSeatOf, IsSameTable, IsAway};
 ghost use Rattle.host_tests.specs.Desks.{entry_of};
-ghost use Rattle.host_tests.specs.Places.{Fills, BothFill, TwoTurns};
+ghost use Rattle.host_tests.specs.Places.{Fills, BothFill, TwoTurns, ranges_of_three};
 ghost use Rattle.host_tests.specs.Turned.{Turned, Added, IsIdle};
 
 use crate::{Desk, Note};
@@ -43,6 +44,7 @@ pub fn placed_note<R: Wait>(
 
 /// The turns of two seats, one after the other, which note the beginning and the end of recovery; then the first seat
 /// takes the second in. What both filled is known of it then.
+#[tactic(auto, using(crate::proofs::Turns::grown_length))]
 pub fn two_turns<R: Wait>(
     rt: &R,
     table: &HostTable<Desk>,
@@ -60,4 +62,25 @@ pub fn two_turns<R: Wait>(
     let ended = placed_note(rt, table, &mut second, Note::Ended)?;
     table.join(first, second);
     Ok((begun, ended))
+}
+
+/// The turns of three seats that have all shares of a table, which each note something, and the end of the table. Each
+/// place of the journal is in at most one range of theirs, and none of these ends beyond it.
+pub fn closed_after_three<R: Wait>(
+    rt: &R,
+    table: HostTable<Desk>,
+    first: HostSeat<Desk>,
+    second: HostSeat<Desk>,
+    third: HostSeat<Desk>,
+) -> Result<(Places, Places, Places, Desk), NoMemory>
+    requires seats { IsIdle table first × IsIdle table second × IsIdle table third }
+    requires shares { (view first).share + (view second).share + (view third).share ≡ 65536 }
+    ensures apart { IfOk result (λ r. AreApart (ranges_of_three (view first) (view second) (view third) r.0 r.1 r.2) (length r.3.entries.items)) }
+{
+    let mut first = first;
+    let mut third = third;
+    let (begun, ended) = two_turns(rt, &table, &mut first, second)?;
+    let again = placed_note(rt, &table, &mut third, Note::Begun)?;
+    table.join(&mut first, third);
+    Ok((begun, ended, again, table.close(first)))
 }

@@ -1,7 +1,7 @@
 ghost use Rattle.std.specs.Prelude.{◌≡◌, ◌≤◌, ◌+◌, IfOk};
 ghost use Rattle.std.specs.Thread.{IsSync};
 ghost use Rattle.host_words.specs.Seats.{view, tag_count};
-ghost use Rattle.host_tests.specs.Turned.{IsIdle, IsReady, IsBack};
+ghost use Rattle.host_tests.specs.Turned.{IsIdle, IsReady, MayEnd, IsBack};
 
 use super::*;
 use bitflags::Flags;
@@ -69,23 +69,25 @@ fn two_turns_are_kept_in_order(rt: HostRuntime) -> Result<(), Fail> {
     Ok(())
 }
 
-// Whether three claims on tag 0 answer what they should: one for its old attempt while it is armed for attempt 2, and two
-// for attempt 2.
+// Whether three claims on tag 0 answer what they should: one for its old attempt, which is settled, while it is armed for
+// attempt 2, and two for attempt 2.
 fn a_reused_tag_is_kept_apart<R: Wait>(rt: &R, alloc: Global) -> Result<bool, NoMemory> {
     let (table, mut seat) = table_of(alloc, 1)?;
     let Some(first) = sent_and_told(rt, &table, &mut seat, Tag(0), good())? else {
         return Ok(false);
     };
-    table.claim(&mut seat, Tag(0), first, By::Answer);
-    settled(rt, &table, &mut seat, Tag(0))?;
+    let ended = claimed_and_settled(rt, &table, &mut seat, Tag(0), first, By::Answer)?;
+    let Claim::Won = ended else {
+        return Ok(false);
+    };
     let Some(second) = sent_and_told(rt, &table, &mut seat, Tag(0), good())? else {
         return Ok(false);
     };
-    let old = table.claim(&mut seat, Tag(0), first, By::Answer);
+    let old = late_claim(&table, &mut seat, Tag(0), first, By::Answer);
     let new = table.claim(&mut seat, Tag(0), second, By::Answer);
     let again = table.claim(&mut seat, Tag(0), second, By::Answer);
     Ok(
-        old == Claim::Lost(WordSeen::Armed(Attempt(2)))
+        old == WordSeen::Armed(Attempt(2))
             && new == Claim::Won
             && again == Claim::Lost(WordSeen::Done(Attempt(2))),
     )
@@ -94,6 +96,75 @@ fn a_reused_tag_is_kept_apart<R: Wait>(rt: &R, alloc: Global) -> Result<bool, No
 #[test]
 fn an_old_claim_on_a_reused_tag_is_lost(rt: HostRuntime) -> Result<(), Fail> {
     assert!(rt; a_reused_tag_is_kept_apart(&rt, rt.alloc())?);
+    Ok(())
+}
+
+// Whether two turns settle attempt 1, which was claimed for its answer, so that attempt 2 is sent under its tag.
+fn two_turns_settle<R: Wait>(rt: &R, alloc: Global) -> Result<bool, NoMemory> {
+    let (table, mut seat) = table_of(alloc, 1)?;
+    let Some(n) = sent_and_told(rt, &table, &mut seat, Tag(0), good())? else {
+        return Ok(false);
+    };
+    table.claim(&mut seat, Tag(0), n, By::Answer);
+    let owner = settled_in_two_turns(rt, &table, &mut seat, Tag(0))?;
+    let next = sent(rt, &table, &mut seat, Tag(0))?;
+    Ok(owner == Some((Attempt(1), By::Answer)) && next == Some(Attempt(2)))
+}
+
+#[test]
+fn an_attempt_is_settled_in_two_turns(rt: HostRuntime) -> Result<(), Fail> {
+    assert!(rt; two_turns_settle(&rt, rt.alloc())?);
+    Ok(())
+}
+
+// Whether a turn that enters an owner leaves the tag to it: a further one answers the same, and nothing is sent.
+fn a_tag_is_left_to_its_owner<R: Wait>(rt: &R, alloc: Global) -> Result<bool, NoMemory> {
+    let (table, mut seat) = table_of(alloc, 1)?;
+    let Some(n) = sent_and_told(rt, &table, &mut seat, Tag(0), good())? else {
+        return Ok(false);
+    };
+    table.claim(&mut seat, Tag(0), n, By::Expiry);
+    let owner = owned(rt, &table, &mut seat, Tag(0))?;
+    let again = owned(rt, &table, &mut seat, Tag(0))?;
+    let next = sent(rt, &table, &mut seat, Tag(0))?;
+    Ok(owner == Some((Attempt(1), By::Expiry)) && again == owner && next.is_none())
+}
+
+#[test]
+fn an_owned_tag_is_not_sent_under(rt: HostRuntime) -> Result<(), Fail> {
+    assert!(rt; a_tag_is_left_to_its_owner(&rt, rt.alloc())?);
+    Ok(())
+}
+
+// Whether a turn settles nothing under a tag whose attempt nobody has claimed.
+fn an_unclaimed_tag_is_let_be<R: Wait>(rt: &R, alloc: Global) -> Result<bool, NoMemory> {
+    let (table, mut seat) = table_of(alloc, 1)?;
+    sent(rt, &table, &mut seat, Tag(0))?;
+    let owner = settled(rt, &table, &mut seat, Tag(0))?;
+    Ok(owner.is_none())
+}
+
+#[test]
+fn an_unclaimed_attempt_is_not_settled(rt: HostRuntime) -> Result<(), Fail> {
+    assert!(rt; an_unclaimed_tag_is_let_be(&rt, rt.alloc())?);
+    Ok(())
+}
+
+// The places that three seats of a new table filled.
+fn places_of_three<R: Wait>(rt: &R, alloc: Global) -> Result<(Places, Places, Places), NoMemory> {
+    let (table, mut first) = table_of(alloc, 0)?;
+    let second = table.split(&mut first);
+    let third = table.split(&mut first);
+    let (begun, ended, again, _) = closed_after_three(rt, table, first, second, third)?;
+    Ok((begun, ended, again))
+}
+
+#[test]
+fn three_seats_fill_places_of_their_own(rt: HostRuntime) -> Result<(), Fail> {
+    let (begun, ended, again) = places_of_three(&rt, rt.alloc())?;
+    assert_eq!(rt; begun, Places { from: 0, to: 1 });
+    assert_eq!(rt; ended, Places { from: 1, to: 2 });
+    assert_eq!(rt; again, Places { from: 2, to: 3 });
     Ok(())
 }
 
@@ -252,5 +323,82 @@ fn each_attempt_has_one_winner_of_four_threads(rt: HostRuntime) -> Result<(), Fa
     for i in 0..1000 {
         assert_eq!(rt; winners(&won, i), 1, "{i}");
     }
+    Ok(())
+}
+
+type Ended = (HostSeat<Desk>, Option<Claim>);
+
+fn ends<R: Wait>(
+    rt: &R,
+    table: &HostTable<Desk>,
+    mut seat: HostSeat<Desk>,
+    n: Attempt,
+    by: By,
+) -> Ended
+    requires { MayEnd table.now seat n }
+    ensures { IsBack table.now seat result.0 }
+{
+    let claim = claimed_and_settled(rt, table, &mut seat, Tag(0), n, by).ok();
+    (seat, claim)
+}
+
+// One claims by answer, the other by expiry, and each settles what it won.
+fn two_end<R: Threads + Wait + Sync>(
+    rt: &R,
+    table: &HostTable<Desk>,
+    first: HostSeat<Desk>,
+    second: HostSeat<Desk>,
+    n: Attempt,
+) -> (Ended, Ended)
+    requires { MayEnd table.now first n × MayEnd table.now second n }
+    ensures { IsBack table.now first result.0.0 × IsBack table.now second result.1.0 }
+{
+    join(
+        rt,
+        || -> Ended
+            requires { MayEnd table.now first n }
+            ensures { IsBack table.entry.now first result.0 }
+        { ends(rt, table, first, n, By::Answer) },
+        || -> Ended
+            requires { MayEnd table.now second n }
+            ensures { IsBack table.entry.now second result.0 }
+        { ends(rt, table, second, n, By::Expiry) },
+    )
+}
+
+fn split_to_end(table: &HostTable<Desk>, seat: &mut HostSeat<Desk>, n: Attempt) -> HostSeat<Desk>
+    requires may { MayEnd table.now seat.old n }
+    requires share { (view seat.old).share ≡ 65536 }
+    ensures may { MayEnd table.now seat.new n × MayEnd table.now result n }
+    ensures share { ((view seat.new).share + 1 ≡ 65536) × ((view result).share ≡ 1) }
+{
+    let _ = n;
+    table.split(seat)
+}
+
+// How many of two threads won attempt 1, and how many entries stand then.
+fn ended_by_two<R: Threads + Wait + Sync>(
+    rt: &R,
+    alloc: Global,
+) -> Result<Option<(usize, usize)>, NoMemory> {
+    let (table, mut first) = table_of(alloc, 1)?;
+    let Some(n) = sent_and_told(rt, &table, &mut first, Tag(0), good())? else {
+        return Ok(None);
+    };
+    let second = split_to_end(&table, &mut first, n);
+    let ((mut first, a), (second, b)) = two_end(rt, &table, first, second, n);
+    table.join(&mut first, second);
+    let desk = table.close(first);
+    let won = [a, b]
+        .iter()
+        .filter(|one| **one == Some(Claim::Won))
+        .count();
+    Ok(Some((won, desk.entries().len())))
+}
+
+// The entries are that it was sent, answered, and that its time was up; and one owner.
+#[test]
+fn one_of_two_threads_wins_and_settles(rt: HostRuntime) -> Result<(), Fail> {
+    assert!(rt; ended_by_two(&rt, rt.alloc())? == Some((1, 4)));
     Ok(())
 }

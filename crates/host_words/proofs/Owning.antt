@@ -26,6 +26,7 @@ use Rattle.host_words.specs.Words.{claimed_word, NumberIs, Fits}
 use Rattle.host_words.specs.Views.{win, loss, shows, arm, won, lost, begun, armed_with, showing, released_of, total}
 use Rattle.host_words.specs.Owners.{has_attempt, wins_of, WinStands, WinsStand, LossStands, LossesStand, Owners}
 use Rattle.host_words.specs.Leaving.{IsNew, TagLeft, MayLeave}
+use Rattle.host_words.specs.Looks.{Looks}
 use Rattle.host_words.proofs.Totals.{total_set, total_snoc, total_none, each_set, each_snoc}
 
 module _ {A : Type 0} where
@@ -390,6 +391,13 @@ module _ (cells : List WordSeen) (now : Turn) (views : List View) (o : Owners ce
       same_word = w.same_word;
       same_shown = λ u c h. ⊎_elim (w.same_shown u c) (λ (e : shows u (claimed_word m c) ≡ shows t word). w.same_word u c (is_word u m c e)) (in_snoc (shows u (claimed_word m c)) now.shown (shows t word) h);
       same_owned = w.same_owned;
+    }
+
+    pub word_told : (id : ℕ) (v : View) → get_elem? views id ≡ some v → Looks v now t word
+    word_told id v here = record {
+      fits = λ had e. o.fits t had word (from_slice now.hand t had e) at;
+      caused = λ n by e. o.caused t n by (at ∙ ap some e);
+      won = λ n by h. ⊎_elim (λ (x : get_elem? cells t ≡ some (claimed_word n by)). inl (some-injective _ _ (sym at ∙ x))) (λ x. inr x) (o.each_win id v here t n by h).stands;
     }
 
     pub tag_shown : (id : ℕ) (v w : View) → get_elem? views id ≡ some v → w.wins ≡ v.wins → w.losts ≡ v.losts → w.seen ≡ v.seen → Owners cells (showing now t word) (set views id w)

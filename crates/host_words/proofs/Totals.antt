@@ -5,7 +5,7 @@ use lib.ListN.{get_elem?}
 use Rattle.atomic_table.proofs.Lists.{at_set, at_snoc}
 use Rattle.host_words.specs.declared.view.Range.{Range}
 use Rattle.host_words.specs.Views.{total}
-use Rattle.host_words.specs.Hosted.{covers}
+use Rattle.host_words.specs.Places.{covers}
 
 module _ {V : Type 0} where
   pub total_set : (f : V → ℕ) (vs : List V) (j : ℕ) (v w : V) → get_elem? vs j ≡ some v → total f (set vs j w) + f v ≡ total f vs + f w

@@ -1,5 +1,5 @@
 -- Each step keeps the rule of the table.
-use Rattle.std.proofs.Common.{◌≡◌, ◌≢◌, ℕ, zero, suc, ◌+◌, ◌%◌, ◌^◌, ◌<◌, ◌≤◌, eqb, nat_le, cond, ⊎_elim, true, false, List, [], ◌∷◌, ◌++◌, map, length, get_or, set, replicate, sym, refl, ap, ◌∙◌, subst, arith, Option, Some, None, append_assoc, append-nil, length-append, length-set, eq-eqb, ne_eqb, Bool}
+use Rattle.std.proofs.Common.{◌≡◌, ◌≢◌, ℕ, zero, suc, ◌+◌, ◌%◌, ◌^◌, ◌<◌, ◌≤◌, eqb, ⊎_elim, List, [], ◌∷◌, ◌++◌, map, length, get_or, set, replicate, sym, refl, ap, ◌∙◌, subst, arith, Option, Some, None, append_assoc, append-nil, length-append, length-set, eq-eqb, ne_eqb}
 use Rattle.std.proofs.Math.Nat.{mod-add-mod}
 use Rattle.std.proofs.lemmas.Bool.Decides.{nat_tests}
 use Rattle.std.proofs.lemmas.List.{length-replicate}
@@ -15,23 +15,27 @@ use Rattle.atomic_table.proofs.Lists.{set_again, set_else, one_turn, at_snoc}
 use Rattle.mid_base.specs.declared.answers.By.{By}
 use Rattle.mid_base.specs.declared.answers.TagState.{TagState}
 use Rattle.mid_base.specs.declared.answers.TagState.TheVariants as tag
+use Rattle.mid_base.specs.declared.entries.Entry.TheVariants.{Owned}
 use Rattle.mid_base.specs.declared.names.Attempt.{Attempt}
 use Rattle.host_words.specs.declared.words.WordSeen.{WordSeen}
 use Rattle.host_words.specs.declared.words.WordSeen.TheVariants.{Free, Armed, Done, Expired}
 use Rattle.host_words.specs.declared.view.Origin.{Origin}
+use Rattle.host_words.specs.declared.view.Range.{Range}
 use Rattle.host_words.specs.declared.view.Stage.{Stage}
 use Rattle.host_words.specs.declared.view.Stage.TheVariants.{Away, Waiting, Holding, Leaving}
 use Rattle.host_words.specs.declared.view.Turn.{Turn}
 use Rattle.host_words.specs.declared.view.View.{View}
 use Rattle.host_words.specs.Journals.{Journal, IsPrefix, In, HasCause}
 use Rattle.host_words.specs.Words.{code, claimed_word}
-use Rattle.host_words.specs.Views.{range, staged, shows, won, lost, begun, turn_of, armed_with, showing, released_of, first_view, left_view, split_left, split_right, longer, joined, spent, total}
+use Rattle.host_words.specs.Places.{covers, covered_by, below, EndBy, AreApart}
+use Rattle.host_words.specs.Views.{range, staged, shows, won, lost, begun, turn_of, armed_with, showing, released_of, first_view, left_view, split_left, split_right, grown, joined, spent, total}
 use Rattle.host_words.specs.Owners.{Owners, wins_of, OwnersAgree, WonOnce}
 use Rattle.host_words.specs.Leaving.{IsNew, MayLeave, IsShownClaimed}
-use Rattle.host_words.specs.Hosted.{share_of, drawn_by, tickets, held_by, turns, Has, covers, covered_by, below, IsOf, Knows, Home, Hosted}
+use Rattle.host_words.specs.Looks.{Looks}
+use Rattle.host_words.specs.Hosted.{share_of, drawn_by, tickets, held_by, turns, Has, IsOf, HasTags, Knows, Home, Hosted}
 use Rattle.host_words.specs.Tells.{drew, armed, showed, freed, claimed, Claimed, looked, sealed, counted}
 use Rattle.host_words.proofs.Totals.{total_set, total_snoc, total_le, total_none, each_set, each_snoc, covers-append}
-use Rattle.host_words.proofs.Owning.{same_knowledge, newcomer_knows, joined_knowledge, claim_won, claim_lost, tag_armed, tag_shown, tag_released, turn_left, all_free, cause_on, cause_sent, mark_same, same_attempt}
+use Rattle.host_words.proofs.Owning.{same_knowledge, newcomer_knows, joined_knowledge, claim_won, claim_lost, tag_armed, tag_shown, tag_released, turn_left, all_free, cause_on, cause_sent, mark_same, same_attempt, in_first, in_snoc, in_either, word_told}
 
 pub prefix_refl : (xs : Journal) → IsPrefix xs xs
 prefix_refl xs = ([], sym (append-nil xs))
@@ -42,27 +46,36 @@ prefix_trans xs ys zs p q = (p.0 ++ q.0, q.1 ∙ (ap (λ l. l ++ q.0) p.1 ∙ ap
 pub prefix_length : (xs ys : Journal) → IsPrefix xs ys → length xs ≤ length ys
 prefix_length xs ys p = omega (arith, ap length p.1, length-append xs p.0)
 
--- of two beginnings of one list, the shorter begins the longer
-prefix_of : (xs ys zs : Journal) → IsPrefix xs zs → IsPrefix ys zs → length xs ≤ length ys → IsPrefix xs ys
-prefix_of [] ys zs p q le = (ys, refl)
-prefix_of (x ∷ xs) [] zs p q le = absurd (omega arith)
-prefix_of (x ∷ xs) (y ∷ ys) [] p q le = absurd (let e = p.1 in cc)
-prefix_of (x ∷ xs) (y ∷ ys) (z ∷ zs) p q le =
+pub grown_first : (xs ys : Journal) → IsPrefix xs (grown xs ys)
+grown_first [] ys = (ys, refl)
+grown_first (x ∷ xs) [] = ([], sym (append-nil (x ∷ xs)))
+grown_first (x ∷ xs) (y ∷ ys) = let rest = grown_first xs ys in (rest.0, ap (λ l. x ∷ l) rest.1)
+
+-- of two beginnings of one list, the first grown by the second begins it, and begins with the second
+pub grown_of : (xs ys zs : Journal) → IsPrefix xs zs → IsPrefix ys zs → IsPrefix (grown xs ys) zs × IsPrefix ys (grown xs ys)
+grown_of [] ys zs p q = (q, prefix_refl ys)
+grown_of (x ∷ xs) [] zs p q = (p, (x ∷ xs, refl))
+grown_of (x ∷ xs) (y ∷ ys) [] p q = absurd (let e = p.1 in cc)
+grown_of (x ∷ xs) (y ∷ ys) (z ∷ zs) p q =
     let a : zs ≡ xs ++ p.0 = let e = p.1 in cc in
     let b : zs ≡ ys ++ q.0 = let e = q.1 in cc in
+    let here : z ≡ x = let e = p.1 in cc in
     let same : y ≡ x = let e = p.1 in let f = q.1 in cc in
-    let rest = prefix_of xs ys zs (p.0, a) (q.0, b) (omega arith) in
-    (rest.0, λ i. same i ∷ rest.1 i)
+    let rest = grown_of xs ys zs (p.0, a) (q.0, b) in
+    ((rest.0.0, λ i. here i ∷ rest.0.1 i), (rest.1.0, λ i. sym same i ∷ rest.1.1 i))
 
-longer_at : (xs ys zs : Journal) → IsPrefix xs zs → IsPrefix ys zs → (b : Bool) → nat_le (length xs) (length ys) ≡ b → IsPrefix xs (cond b ys xs) × IsPrefix ys (cond b ys xs)
-longer_at xs ys zs p q true e = (prefix_of xs ys zs p q (let le : length xs ≤ length ys = grind (arith, nat_tests) in le), prefix_refl ys)
-longer_at xs ys zs p q false e = let lt : length ys < length xs = grind (arith, nat_tests) in (prefix_refl xs, prefix_of ys xs zs q p (omega arith))
+ends_on : (a b : ℕ) (ranges : List Range) → a ≤ b → EndBy a ranges → EndBy b ranges
+ends_on a b ranges up ends r h = let e = ends r h in (e.0, omega (arith, e.1))
 
-longer_of : (xs ys zs : Journal) → IsPrefix xs zs → IsPrefix ys zs → IsPrefix xs (longer xs ys) × IsPrefix ys (longer xs ys)
-longer_of xs ys zs p q = longer_at xs ys zs p q (nat_le (length xs) (length ys)) refl
+ends_more : (a b : ℕ) (ranges : List Range) → a ≤ b → EndBy a ranges → EndBy b (ranges ++ range a b ∷ [])
+ends_more a b ranges up ends r h = ⊎_elim (ends_on a b ranges up ends r)
+    (λ (e : r ≡ range a b). subst (λ (x : Range). (x.from ≤ x.to) × (x.to ≤ b)) (sym e) (up, omega arith)) (in_snoc r ranges (range a b) h)
 
-longer_is : (P : Journal → Type 0) (xs ys : Journal) → P xs → P ys → P (longer xs ys)
-longer_is P xs ys p q = elim (nat_le (length xs) (length ys)) as (λ b. P (cond b ys xs)) [ true ↦ q | false ↦ p ]
+ends_both : (a : ℕ) (rs ss : List Range) → EndBy a rs → EndBy a ss → EndBy a (rs ++ ss)
+ends_both a rs ss p q r h = ⊎_elim (p r) (q r) (in_either r rs ss h)
+
+below_one : (p end : ℕ) → below p end ≤ 1
+below_one p end = grind (arith, nat_tests)
 
 abbrev left_or : Stage → Journal
 left_or (Leaving t u l) = l
@@ -157,10 +170,10 @@ same_claim t t' n n' by by' e1 e2 e3 =
     λ i. (a i, (m.0 i, m.1 i))
 
 -- a claim leaves the stage and the share of its seat
-pub claim_keeps : (v v' : View) (t : ℕ) (n : Attempt) (by : By) (w : WordSeen) → Claimed v t n by w v' → (v'.stage ≡ v.stage) × (v'.share ≡ v.share)
+pub claim_keeps : (v v' : View) (t : ℕ) (n : Attempt) (by : By) (w : WordSeen) → Claimed v t n by w v' → (v'.stage ≡ v.stage) × (v'.share ≡ v.share) × (v'.tags ≡ v.tags)
 claim_keeps v v' t n by w c = dite (ℕ_discrete (code w) (code (Armed n)))
-    (λ hit. let k = c.0 (code_same w (Armed n) hit) in (ap (λ (x : View). x.stage) k, ap (λ (x : View). x.share) k))
-    (λ miss. let k = c.1 (λ e. miss (ap code e)) in (ap (λ (x : View). x.stage) k, ap (λ (x : View). x.share) k))
+    (λ hit. let k = c.0 (code_same w (Armed n) hit) in (ap (λ (x : View). x.stage) k, ap (λ (x : View). x.share) k, ap (λ (x : View). x.tags) k))
+    (λ miss. let k = c.1 (λ e. miss (ap code e)) in (ap (λ (x : View). x.stage) k, ap (λ (x : View). x.share) k, ap (λ (x : View). x.tags) k))
 
 either_hit : (x old new : ℕ) → x ≡ old → either (eqb x old) new x ≡ new
 either_hit x old new e = ap (λ b. either b new x) (eq-eqb x old e)
@@ -225,6 +238,15 @@ module _ {S : Type 0} (origin_of : S → Origin) (journal_of : S → Journal) (t
   one_holder now holders (maybe.some None) is some_held = absurd is
   one_holder now holders maybe.none is some_held = (is, refl)
 
+  hand_size : (s : State (Option S) View) (r : Rule s) → length r.now.hand ≡ tags
+  hand_size s r = r.owners.long ∙ r.sized
+
+  ranges_apart : (s : State (Option S) View) (r : Rule s) (id : ℕ) (v : View) → get_elem? s.views id ≡ maybe.some v → AreApart v.mine (length r.now.base)
+  ranges_apart s r id v at = record {
+    once = λ p. omega (arith, r.once p, total_set (covered_by p) s.views id v spent at, below_one p (length r.now.base));
+    within = r.each_range id v at;
+  }
+
   pub draws : (slots id : ℕ) (me : Me (Option S) View) → me.0.stage ≡ Away → me.0.share ≢ 0 → Allows Rule slots id me 0 (λ n. (n + 1) % 2 ^ 64) (drew (step slots 0 1 0 maybe.none) me)
   draws slots id me away some_share s r _ at _ =
       let w : View = staged me.0 (Waiting r.drawn) in
@@ -254,8 +276,10 @@ module _ {S : Type 0} (origin_of : S → Origin) (journal_of : S → Journal) (t
           apart = apart_set s.views id w r.apart (λ k t u _ e h g. let under = has_below r.served r.drawn r.now t u.stage (r.each_seat k u e) g in absurd (omega arith));
           backed = each_set (λ _ v. tickets v ≤ v.share) s.views id w (omega arith) (λ j v _. r.backed j v);
           each_origin = each_set (λ _ v. IsOf about v) s.views id w (r.each_origin id me.0 at) (λ j v _. r.each_origin j v);
+          each_tags = each_set (λ _ v. HasTags tags v) s.views id w (r.each_tags id me.0 at) (λ j v _. r.each_tags j v);
           each_seen = each_set (λ _ v. IsPrefix v.seen r.now.base) s.views id w (r.each_seen id me.0 at) (λ j v _. r.each_seen j v);
           each_seat = each_set (λ _ v. Knows r.served (r.drawn + 1) r.now v.stage) s.views id w (omega arith) (λ j v _ e. knows_more r.served r.drawn r.now v.stage (r.each_seat j v e));
+          each_range = each_set (λ _ v. EndBy (length r.now.base) v.mine) s.views id w (r.each_range id me.0 at) (λ j v _. r.each_range j v);
           once = λ p. omega (arith, r.once p, total_set (covered_by p) s.views id me.0 w at);
           owners = same_knowledge r.cells r.now s.views r.owners id me.0 w at refl refl refl;
         },
@@ -300,8 +324,10 @@ module _ {S : Type 0} (origin_of : S → Origin) (journal_of : S → Journal) (t
           apart = apart_same s.views id me.0 w at (λ n h. subst (Has n) (sym is) h) r.apart;
           backed = each_set (λ _ v. tickets v ≤ v.share) s.views id w (omega arith) (λ j v _. r.backed j v);
           each_origin = each_set (λ _ v. IsOf about v) s.views id w (r.each_origin id me.0 at) (λ j v _. r.each_origin j v);
+          each_tags = each_set (λ _ v. HasTags tags v) s.views id w (r.each_tags id me.0 at) (λ j v _. r.each_tags j v);
           each_seen = each_set (λ _ v. IsPrefix v.seen r.now.base) s.views id w (r.each_seen id me.0 at) (λ j v _. r.each_seen j v);
           each_seat = each_set (λ _ v. Knows r.served r.drawn r.now v.stage) s.views id w (sym served_is, k.1, sym x.3) (λ j v _. r.each_seat j v);
+          each_range = each_set (λ _ v. EndBy (length r.now.base) v.mine) s.views id w (r.each_range id me.0 at) (λ j v _. r.each_range j v);
           once = λ p. omega (arith, r.once p, total_set (covered_by p) s.views id me.0 w at);
           owners = same_knowledge r.cells r.now s.views r.owners id me.0 w at refl refl refl;
         },
@@ -313,6 +339,8 @@ module _ {S : Type 0} (origin_of : S → Origin) (journal_of : S → Journal) (t
             ap (λ (n : ℕ). staged me.0 (Holding n (begun (journal_of x.0) (tags_of x.0)))) (sym same),
             subst (IsPrefix me.0.seen) (ap (λ (u : Turn). u.base) x.3) (r.each_seen id me.0 at),
             subst (OwnersAgree me.0) (ap (λ (u : Turn). u.base) x.3) (λ i n b c h. (r.owners.each_win id me.0 at i n b h).same_owned c),
+            sym (ap (λ (u : Turn). length u.hand) x.3) ∙ (hand_size s r ∙ sym (r.each_tags id me.0 at (omega arith))),
+            subst (λ (l : Journal). AreApart me.0.mine (length l)) (ap (λ (u : Turn). u.base) x.3) (ranges_apart s r id me.0 at),
           ),
           λ miss. absurd (miss (hit ∙ ap (λ (n : ℕ). n % 2 ^ 64) (sym same))),
         ),
@@ -356,8 +384,10 @@ module _ {S : Type 0} (origin_of : S → Origin) (journal_of : S → Journal) (t
           apart = apart_same s.views id me.0 w at (λ n h. subst (Has n) (sym is) h) r.apart;
           backed = each_set (λ _ v. tickets v ≤ v.share) s.views id w (omega arith) (λ j v _. r.backed j v);
           each_origin = each_set (λ _ v. IsOf about v) s.views id w (r.each_origin id me.0 at) (λ j v _. r.each_origin j v);
+          each_tags = each_set (λ _ v. HasTags tags v) s.views id w (r.each_tags id me.0 at) (λ j v _. r.each_tags j v);
           each_seen = each_set (λ _ v. IsPrefix v.seen r.now.base) s.views id w (r.each_seen id me.0 at) (λ j v _. r.each_seen j v);
           each_seat = each_set (λ _ v. Knows r.served r.drawn r.now v.stage) s.views id w k (λ j v _. r.each_seat j v);
+          each_range = each_set (λ _ v. EndBy (length r.now.base) v.mine) s.views id w (r.each_range id me.0 at) (λ j v _. r.each_range j v);
           once = λ p. omega (arith, r.once p, total_set (covered_by p) s.views id me.0 w at);
           owners = same_knowledge r.cells r.now s.views r.owners id me.0 w at refl refl refl;
         },
@@ -416,9 +446,12 @@ module _ {S : Type 0} (origin_of : S → Origin) (journal_of : S → Journal) (t
           apart = apart_set s.views id w r.apart (λ n u x other e h g. h);
           backed = each_set (λ _ v. tickets v ≤ v.share) s.views id w (omega arith) (λ j v _. r.backed j v);
           each_origin = each_set (λ _ v. IsOf about v) s.views id w (r.each_origin id me.0 at) (λ j v _. r.each_origin j v);
+          each_tags = each_set (λ _ v. HasTags tags v) s.views id w (r.each_tags id me.0 at) (λ j v _. r.each_tags j v);
           each_seen = each_set (λ _ v. IsPrefix v.seen left) s.views id w (prefix_refl left) (λ j v _ e. prefix_trans v.seen r.now.base left (r.each_seen j v e) grows);
           each_seat = each_set (λ _ v. Knows (r.served + 1) r.drawn (begun left (tags_of x)) v.stage) s.views id w tt
               (λ j v other e. knows_next r.served r.drawn r.now (begun left (tags_of x)) v.stage (λ h. other (r.apart j id r.served v me.0 e at h mine)) (r.each_seat j v e));
+          each_range = each_set (λ _ v. EndBy (length left) v.mine) s.views id w (ends_more (length u.base) (length left) me.0.mine (omega arith) (subst (λ (n : ℕ). EndBy n me.0.mine) (sym from_to) (r.each_range id me.0 at)))
+              (λ j v _ e. ends_on (length r.now.base) (length left) v.mine up (r.each_range j v e));
           once = λ p. let more = once_more p (length r.now.base) (length left) (total (covered_by p) s.views) up (r.once p) in
               let same : covers p (range (length u.base) (length left) ∷ []) ≡ covers p (range (length r.now.base) (length left) ∷ []) = ap (λ (n : ℕ). covers p (range n (length left) ∷ [])) from_to in
               omega (arith, total_set (covered_by p) s.views id me.0 w at, covers-append p me.0.mine (range (length u.base) (length left) ∷ []));
@@ -434,12 +467,12 @@ module _ {S : Type 0} (origin_of : S → Origin) (journal_of : S → Journal) (t
       )
 
   -- A step of one seat on a tag's word
-  tag_step : (s : State (Option S) View) (r : Rule s) (id : ℕ) (v w : View) → get_elem? s.views id ≡ maybe.some v → w.origin ≡ v.origin → w.share ≡ v.share → w.seen ≡ v.seen → w.mine ≡ v.mine
+  tag_step : (s : State (Option S) View) (r : Rule s) (id : ℕ) (v w : View) → get_elem? s.views id ≡ maybe.some v → w.origin ≡ v.origin → w.tags ≡ v.tags → w.share ≡ v.share → w.seen ≡ v.seen → w.mine ≡ v.mine
       → drawn_by w.stage ≡ drawn_by v.stage → held_by w.stage ≡ held_by v.stage → ((t : ℕ) → Has t w.stage → Has t v.stage)
       → (now : Turn) (cells : List WordSeen) → now.base ≡ r.now.base → length cells ≡ length r.cells → Home origin_of journal_of tags_of about now (total turns s.views) r.home
       → Knows r.served r.drawn now w.stage → ((j : ℕ) (x : View) → j ≢ id → get_elem? s.views j ≡ maybe.some x → Knows r.served r.drawn now x.stage)
       → Owners cells now (set s.views id w) → Rule record { words = (r.drawn % 2 ^ 64) ∷ (r.served % 2 ^ 64) ∷ map code cells; homes = s.homes; views = set s.views id w }
-  tag_step s r id v w at spec share seen mine drawn held has now cells base long home knows others owners =
+  tag_step s r id v w at spec same_tags share seen mine drawn held has now cells base long home knows others owners =
       let same_held : total turns (set s.views id w) ≡ total turns s.views = omega (arith, total_set turns s.views id v w at) in
       let counts = r.counts in
       let all = r.shares in
@@ -458,9 +491,12 @@ module _ {S : Type 0} (origin_of : S → Origin) (journal_of : S → Journal) (t
         apart = apart_same s.views id v w at has r.apart;
         backed = each_set (λ _ x. tickets x ≤ x.share) s.views id w (omega arith) (λ j x _. r.backed j x);
         each_origin = each_set (λ _ x. IsOf about x) s.views id w (λ some_share. spec ∙ r.each_origin id v at (omega arith)) (λ j x _. r.each_origin j x);
+        each_tags = each_set (λ _ x. HasTags tags x) s.views id w (λ some_share. same_tags ∙ r.each_tags id v at (omega arith)) (λ j x _. r.each_tags j x);
         each_seen = each_set (λ _ x. IsPrefix x.seen now.base) s.views id w (subst (λ (z : Journal × Journal). IsPrefix z.0 z.1) (λ i. (sym seen i, sym base i)) (r.each_seen id v at))
             (λ j x _ e. subst (IsPrefix x.seen) (sym base) (r.each_seen j x e));
         each_seat = each_set (λ _ x. Knows r.served r.drawn now x.stage) s.views id w knows others;
+        each_range = each_set (λ _ x. EndBy (length now.base) x.mine) s.views id w (subst (λ (z : List Range × Journal). EndBy (length z.1) z.0) (λ i. (sym mine i, sym base i)) (r.each_range id v at))
+            (λ j x _ e. subst (λ (b : Journal). EndBy (length b) x.mine) (sym base) (r.each_range j x e));
         once = λ p. let c : covered_by p w ≡ covered_by p v = ap (covers p) mine in let l : below p (length now.base) ≡ below p (length r.now.base) = ap (λ (b : Journal). below p (length b)) base in omega (arith, r.once p, total_set (covered_by p) s.views id v w at);
         owners = owners;
       }
@@ -475,7 +511,7 @@ module _ {S : Type 0} (origin_of : S → Origin) (journal_of : S → Journal) (t
       let one_turn_mine : turns v ≡ 1 = ap held_by is in
       let held : total turns (set s.views id w) ≡ total turns s.views = omega (arith, total_set turns s.views id v w at) in
       let out = one_holder r.now (total turns s.views) r.home r.at_home (omega (arith, total_set turns s.views id v spent at)) in
-      tag_step s r id v w at refl refl refl refl (sym (ap drawn_by is)) (sym (ap held_by is)) (λ n h. subst (Has n) (sym is) h) u' cells (base ∙ ap (λ (x : Turn). x.base) known.2) long
+      tag_step s r id v w at refl refl refl refl refl (sym (ap drawn_by is)) (sym (ap held_by is)) (λ n h. subst (Has n) (sym is) h) u' cells (base ∙ ap (λ (x : Turn). x.base) known.2) long
       (subst (Home origin_of journal_of tags_of about u' (total turns s.views)) (sym out.1) out.0) (known.0, known.1, refl)
       (λ j x other e. knows_other r.served r.drawn r.now u' x.stage (λ h. other (r.apart j id r.served x v e at h mine)) (r.each_seat j x e)) owners
 
@@ -502,7 +538,7 @@ module _ {S : Type 0} (origin_of : S → Origin) (journal_of : S → Journal) (t
         tt,
         subst (λ (b : ℕ). Rule record { words = set s.words (t + 2) b; homes = s.homes; views = set s.views id w }) (sym (either_hit x (code (Armed n)) (code (claimed_word n by)) hit))
             (subst (λ (ws : List ℕ). Rule record { words = ws; homes = s.homes; views = set s.views id w }) (sym (word_set s r t (claimed_word n by)))
-            (tag_step s r id me.0 w at refl refl refl refl refl refl (λ k h. h) r.now (set r.cells t (claimed_word n by)) refl (length-set r.cells t (claimed_word n by)) r.at_home (r.each_seat id me.0 at) (λ j v _. r.each_seat j v)
+            (tag_step s r id me.0 w at refl refl refl refl refl refl refl (λ k h. h) r.now (set r.cells t (claimed_word n by)) refl (length-set r.cells t (claimed_word n by)) r.at_home (r.each_seat id me.0 at) (λ j v _. r.each_seat j v)
             (claim_won r.cells r.now s.views r.owners t n by (p.1 ∙ ap maybe.some is) id me.0 at (cause_on me.0.seen r.now.base t n by seen cause)))),
         (
           refl,
@@ -510,7 +546,7 @@ module _ {S : Type 0} (origin_of : S → Origin) (journal_of : S → Journal) (t
             p.0,
             here,
             let same = same_claim t t' n n' by by' e1 e2 e3 in
-                subst (λ (z : ℕ × (Attempt × By)). Claimed me.0 z.0 z.1.0 z.1.1 p.0 w) same ((λ _. refl), λ other. absurd (other is)),
+                subst (λ (z : ℕ × (Attempt × By)). Claimed me.0 z.0 z.1.0 z.1.1 p.0 w) same ((λ _. refl), λ other. absurd (other is), λ b h _. r.owners.unowned t n (p.1 ∙ ap maybe.some is) b (subst (In (Owned n b)) (sym seen.1) (in_first (Owned n b) me.0.seen seen.0 h))),
           ),
         ),
       ))
@@ -522,7 +558,7 @@ module _ {S : Type 0} (origin_of : S → Origin) (journal_of : S → Journal) (t
         tt,
         subst (λ (b : ℕ). Rule record { words = set s.words (t + 2) b; homes = s.homes; views = set s.views id w }) (sym (either_miss x (code (Armed n)) (code (claimed_word n by)) miss))
             (subst (λ (ws : List ℕ). Rule record { words = ws; homes = s.homes; views = set s.views id w }) (sym (set-get_or s.words (t + 2) 0 ∙ r.words_are))
-            (tag_step s r id me.0 w at refl refl refl refl refl refl (λ k h. h) r.now r.cells refl refl r.at_home (r.each_seat id me.0 at) (λ j v _. r.each_seat j v)
+            (tag_step s r id me.0 w at refl refl refl refl refl refl refl (λ k h. h) r.now r.cells refl refl r.at_home (r.each_seat id me.0 at) (λ j v _. r.each_seat j v)
             (claim_lost r.cells r.now s.views r.owners t n p.0 p.1 other id me.0 at (cause_sent me.0.seen t n by cause)))),
         (
           refl,
@@ -530,7 +566,7 @@ module _ {S : Type 0} (origin_of : S → Origin) (journal_of : S → Journal) (t
             p.0,
             here,
             let same = same_claim t t' n n' by by' e1 e2 e3 in
-                subst (λ (z : ℕ × (Attempt × By)). Claimed me.0 z.0 z.1.0 z.1.1 p.0 w) same ((λ is. absurd (other is)), λ _. refl),
+                subst (λ (z : ℕ × (Attempt × By)). Claimed me.0 z.0 z.1.0 z.1.1 p.0 w) same ((λ is. absurd (other is)), λ _. refl, λ _ _. other),
           ),
         ),
       ))
@@ -566,7 +602,8 @@ module _ {S : Type 0} (origin_of : S → Origin) (journal_of : S → Journal) (t
       let p = at_place r.cells t (omega arith) in
       let w : View = staged me.0 (Holding k (showing u t p.0)) in
       let known = subst (Knows r.served r.drawn r.now) is (r.each_seat id me.0 at) in
-      let o : Owners r.cells u s.views = subst (λ (v : Turn). Owners r.cells v s.views) (sym known.2) r.owners in (
+      let o : Owners r.cells u s.views = subst (λ (v : Turn). Owners r.cells v s.views) (sym known.2) r.owners in
+      let told = word_told r.cells u s.views o t p.0 p.1 id me.0 at in (
         w,
         keeps,
         tt,
@@ -574,14 +611,15 @@ module _ {S : Type 0} (origin_of : S → Origin) (journal_of : S → Journal) (t
             (turn_step s r id me.0 k u (showing u t p.0) at is refl r.cells refl (tag_shown r.cells u s.views o t p.0 p.1 id me.0 w at refl refl refl)),
         (
           refl,
-          λ t' k' u' is' e1. (
-            p.0,
-            word_here s r t p.0 p.1,
-            let same_t : t' ≡ t = omega arith in
-                let same_k : k' ≡ k = sym (ap number_or (sym is ∙ is')) in
-                let same_u : u' ≡ u = sym (ap turn_of (sym is ∙ is')) in
+          λ t' k' u' is' e1.
+              let same_t : t' ≡ t = omega arith in
+              let same_k : k' ≡ k = sym (ap number_or (sym is ∙ is')) in
+              let same_u : u' ≡ u = sym (ap turn_of (sym is ∙ is')) in (
+                p.0,
+                word_here s r t p.0 p.1,
                 λ i. staged me.0 (Holding (sym same_k i) (showing (sym same_u i) (sym same_t i) p.0)),
-          ),
+                subst (λ (z : ℕ × Turn). Looks me.0 z.1 z.0 p.0) (λ i. (sym same_t i, sym same_u i)) told,
+              ),
         ),
       )
 
@@ -624,6 +662,7 @@ module _ {S : Type 0} (origin_of : S → Origin) (journal_of : S → Journal) (t
       let backed = r.backed id v at in
       let has_one : tickets v ≤ 1 = few_drawn v.stage in
       let of_table = r.each_origin id v at (omega arith) in
+      let has_tags = r.each_tags id v at (omega arith) in
       record {
         served = r.served;
         drawn = r.drawn;
@@ -639,8 +678,10 @@ module _ {S : Type 0} (origin_of : S → Origin) (journal_of : S → Journal) (t
         apart = apart_snoc vs w (λ t h. h) (apart_same s.views id v l at (λ t h. h) r.apart);
         backed = each_snoc (λ u. tickets u ≤ u.share) vs w (omega arith) (each_set (λ _ u. tickets u ≤ u.share) s.views id l (omega arith) (λ j u _. r.backed j u));
         each_origin = each_snoc (IsOf about) vs w (λ _. of_table) (each_set (λ _ u. IsOf about u) s.views id l (λ _. of_table) (λ j u _. r.each_origin j u));
+        each_tags = each_snoc (HasTags tags) vs w (λ _. has_tags) (each_set (λ _ u. HasTags tags u) s.views id l (λ _. has_tags) (λ j u _. r.each_tags j u));
         each_seen = each_snoc (λ u. IsPrefix u.seen r.now.base) vs w (r.each_seen id v at) (each_set (λ _ u. IsPrefix u.seen r.now.base) s.views id l (r.each_seen id v at) (λ j u _. r.each_seen j u));
         each_seat = each_snoc (λ u. Knows r.served r.drawn r.now u.stage) vs w tt (each_set (λ _ u. Knows r.served r.drawn r.now u.stage) s.views id l (r.each_seat id v at) (λ j u _. r.each_seat j u));
+        each_range = each_snoc (λ u. EndBy (length r.now.base) u.mine) vs w (λ _ h. absurd h) (each_set (λ _ u. EndBy (length r.now.base) u.mine) s.views id l (r.each_range id v at) (λ j u _. r.each_range j u));
         once = λ p. omega (arith, r.once p, total_snoc (covered_by p) vs w, total_set (covered_by p) s.views id v l at);
         owners = newcomer_knows r.cells r.now vs (same_knowledge r.cells r.now s.views r.owners id v l at refl refl refl) w refl refl;
       }
@@ -658,7 +699,9 @@ module _ {S : Type 0} (origin_of : S → Origin) (journal_of : S → Journal) (t
       let counts = r.counts in
       let all = r.shares in
       let of_table = r.each_origin id v at (omega arith) in
-      let seen = longer_is (λ l. IsPrefix l r.now.base) v.seen w.seen (r.each_seen id v at) (r.each_seen other w at') in
+      let has_tags = r.each_tags id v at (omega arith) in
+      let both = grown_of v.seen w.seen r.now.base (r.each_seen id v at) (r.each_seen other w at') in
+      let seen = both.0 in
       record {
         served = r.served;
         drawn = r.drawn;
@@ -674,15 +717,18 @@ module _ {S : Type 0} (origin_of : S → Origin) (journal_of : S → Journal) (t
         apart = apart_set vs other spent (apart_set s.views id b r.apart (λ k t u e e' h g. h)) (λ k t u e e' h g. h);
         backed = each_set (λ _ u. tickets u ≤ u.share) vs other spent (omega arith) (λ j u _. each_set (λ _ u. tickets u ≤ u.share) s.views id b (omega arith) (λ j u _. r.backed j u) j u);
         each_origin = each_set (λ _ u. IsOf about u) vs other spent (λ some_there. absurd (omega arith)) (λ j u _. each_set (λ _ u. IsOf about u) s.views id b (λ _. of_table) (λ j u _. r.each_origin j u) j u);
+        each_tags = each_set (λ _ u. HasTags tags u) vs other spent (λ some_there. absurd (omega arith)) (λ j u _. each_set (λ _ u. HasTags tags u) s.views id b (λ _. has_tags) (λ j u _. r.each_tags j u) j u);
         each_seen = each_set (λ _ u. IsPrefix u.seen r.now.base) vs other spent (r.now.base, refl) (λ j u _. each_set (λ _ u. IsPrefix u.seen r.now.base) s.views id b seen (λ j u _. r.each_seen j u) j u);
         each_seat = each_set (λ _ u. Knows r.served r.drawn r.now u.stage) vs other spent tt (λ j u _. each_set (λ _ u. Knows r.served r.drawn r.now u.stage) s.views id b tt (λ j u _. r.each_seat j u) j u);
+        each_range = each_set (λ _ u. EndBy (length r.now.base) u.mine) vs other spent (λ _ h. absurd h)
+            (λ j u _. each_set (λ _ u. EndBy (length r.now.base) u.mine) s.views id b (ends_both (length r.now.base) v.mine w.mine (r.each_range id v at) (r.each_range other w at')) (λ j u _. r.each_range j u) j u);
         once = λ p. omega (arith, r.once p, total_set (covered_by p) vs other w spent there, total_set (covered_by p) s.views id v b at, covers-append p v.mine w.mine);
-        owners = joined_knowledge r.cells r.now s.views r.owners id other v w b spent at apart there refl refl (longer_of v.seen w.seen r.now.base (r.each_seen id v at) (r.each_seen other w at')).0 (longer_of v.seen w.seen r.now.base (r.each_seen id v at) (r.each_seen other w at')).1 refl refl;
+        owners = joined_knowledge r.cells r.now s.views r.owners id other v w b spent at apart there refl refl (grown_first v.seen w.seen) both.1 refl refl;
       }
 
   -- with every share in one seat that has no number, no other seat has the turn, and the state is home
   pub closes : (s : State (Option S) View) (r : Rule s) (id : ℕ) (v : View) → get_elem? s.views id ≡ maybe.some v → v.share ≡ 65536 → v.stage ≡ Away
-      → (x : S) × (s.homes ≡ maybe.some (Some x) ∷ []) × (origin_of x ≡ about) × IsPrefix v.seen (journal_of x) × OwnersAgree v (journal_of x) × WonOnce v × (v.origin ≡ Some about)
+      → (x : S) × (s.homes ≡ maybe.some (Some x) ∷ []) × (origin_of x ≡ about) × IsPrefix v.seen (journal_of x) × OwnersAgree v (journal_of x) × WonOnce v × (v.origin ≡ Some about) × (length (tags_of x) ≡ tags) × AreApart v.mine (length (journal_of x))
   closes s r id v at every away =
       let vs : List View = set s.views id spent in
       let no_turn_here : turns v ≡ 0 = ap held_by away in
@@ -692,19 +738,28 @@ module _ {S : Type 0} (origin_of : S → Origin) (journal_of : S → Journal) (t
       let less = total_le turns tickets vs (λ j u _. few_held u.stage) in
       let all = r.shares in
       let idle : total turns s.views ≡ 0 = omega (arith, total_set share_of s.views id v spent at, total_set turns s.views id v spent at) in
-      let x = found_home r.now (total turns s.views) r.home r.at_home idle in
-      (x.0, r.slot_is ∙ ap (λ h. h ∷ []) x.1, x.2, subst (IsPrefix v.seen) (ap (λ (u : Turn). u.base) x.3) (r.each_seen id v at), subst (OwnersAgree v) (ap (λ (u : Turn). u.base) x.3) (λ i n b c h. (r.owners.each_win id v at i n b h).same_owned c), λ n. omega (arith, r.owners.once n, total_set (wins_of n) s.views id v spent at), r.each_origin id v at (omega arith))
+      let x = found_home r.now (total turns s.views) r.home r.at_home idle in (
+        x.0,
+        r.slot_is ∙ ap (λ h. h ∷ []) x.1,
+        x.2,
+        subst (IsPrefix v.seen) (ap (λ (u : Turn). u.base) x.3) (r.each_seen id v at),
+        subst (OwnersAgree v) (ap (λ (u : Turn). u.base) x.3) (λ i n b c h. (r.owners.each_win id v at i n b h).same_owned c),
+        λ n. omega (arith, r.owners.once n, total_set (wins_of n) s.views id v spent at),
+        r.each_origin id v at (omega arith),
+        sym (ap (λ (u : Turn). length u.hand) x.3) ∙ hand_size s r,
+        subst (λ (l : Journal). AreApart v.mine (length l)) (ap (λ (u : Turn). u.base) x.3) (ranges_apart s r id v at),
+      )
 
   pub hands_out : (id : ℕ) (v : View) (ws : List ℕ) (ys : List (Option S)) (y : Option S) → Final (Seen Rule id v) ws ys → v.share ≡ 65536 → v.stage ≡ Away → get_elem? ys 0 ≡ maybe.some y
-      → (x : S) × (y ≡ Some x) × (origin_of x ≡ about) × IsPrefix v.seen (journal_of x) × OwnersAgree v (journal_of x) × WonOnce v × (v.origin ≡ Some about)
+      → (x : S) × (y ≡ Some x) × (origin_of x ≡ about) × IsPrefix v.seen (journal_of x) × OwnersAgree v (journal_of x) × WonOnce v × (v.origin ≡ Some about) × (length (tags_of x) ≡ tags) × AreApart v.mine (length (journal_of x))
   hands_out id v ws ys y f every away there =
       let x = closes f.0 f.1.0 id v f.1.1 every away in
       let lies = f.4 0 (Some x.0) (ap (λ hs. get_elem? hs 0) x.1) in
-      (x.0, maybe.some-injective y (Some x.0) (sym there ∙ lies), x.2, x.3, x.4, x.5, x.6)
+      (x.0, maybe.some-injective y (Some x.0) (sym there ∙ lies), x.2, x.3, x.4, x.5, x.6, x.7, x.8)
 
-  pub opens : (x : S) → origin_of x ≡ about → tags_of x ≡ replicate tags tag.Free → Rule (opening (0 ∷ 0 ∷ replicate tags 0) (Some x ∷ []) (first_view about (journal_of x)))
+  pub opens : (x : S) → origin_of x ≡ about → tags_of x ≡ replicate tags tag.Free → Rule (opening (0 ∷ 0 ∷ replicate tags 0) (Some x ∷ []) (first_view about tags (journal_of x)))
   opens x is free =
-      let v : View = first_view about (journal_of x) in record {
+      let v : View = first_view about tags (journal_of x) in record {
         served = 0;
         drawn = 0;
         now = begun (journal_of x) (tags_of x);
@@ -719,8 +774,10 @@ module _ {S : Type 0} (origin_of : S → Origin) (journal_of : S → Journal) (t
         apart = λ j k t u w e e' h g. only j v u k w e e';
         backed = each_snoc (λ u. tickets u ≤ u.share) [] v (omega arith) (λ j u e. absurd (maybe.some-ne-none u (sym e)));
         each_origin = each_snoc (IsOf about) [] v (λ _. refl) (λ j u e. absurd (maybe.some-ne-none u (sym e)));
+        each_tags = each_snoc (HasTags tags) [] v (λ _. refl) (λ j u e. absurd (maybe.some-ne-none u (sym e)));
         each_seen = each_snoc (λ u. IsPrefix u.seen (journal_of x)) [] v (prefix_refl (journal_of x)) (λ j u e. absurd (maybe.some-ne-none u (sym e)));
         each_seat = each_snoc (λ u. Knows 0 0 (begun (journal_of x) (tags_of x)) u.stage) [] v tt (λ j u e. absurd (maybe.some-ne-none u (sym e)));
+        each_range = each_snoc (λ u. EndBy (length (journal_of x)) u.mine) [] v (λ _ h. absurd h) (λ j u e. absurd (maybe.some-ne-none u (sym e)));
         once = λ p. omega arith;
         owners = subst (λ (l : List TagState). Owners (replicate tags Free) (begun (journal_of x) l) (v ∷ [])) (sym free) (all_free (journal_of x) tags v refl refl);
       }

@@ -1,20 +1,20 @@
 -- The rule of a host's table.
 -- Word 0 is the number that is drawn next, and word 1 the number that is served, both modulo 2 ^ 64; the rule counts them without an end. A word for each tag follows.
 -- The one slot has the state. It is out with the seat that has the turn.
-use Rattle.std.specs.Prelude.{◌≡◌, ℕ, ◌+◌, ◌%◌, ◌^◌, ◌<◌, ◌≤◌, ◌&&◌, nat_lt, nat_le, if◌then◌else◌, List, [], ◌∷◌, map, length, Option, Some, None}
+use Rattle.std.specs.Prelude.{◌≡◌, ℕ, ◌+◌, ◌%◌, ◌^◌, ◌<◌, ◌≤◌, List, [], ◌∷◌, map, length, Option, Some, None}
 use mathlib.Core.Option as maybe
 use lib.ListN.{get_elem?}
 use Rattle.atomic_table.specs.Table.{State}
 use Rattle.mid_base.specs.declared.answers.TagState.{TagState}
 use Rattle.host_words.specs.declared.words.WordSeen.{WordSeen}
 use Rattle.host_words.specs.declared.view.Origin.{Origin}
-use Rattle.host_words.specs.declared.view.Range.{Range}
 use Rattle.host_words.specs.declared.view.Stage.{Stage}
 use Rattle.host_words.specs.declared.view.Stage.TheVariants.{Away, Waiting, Holding, Leaving}
 use Rattle.host_words.specs.declared.view.Turn.{Turn}
 use Rattle.host_words.specs.declared.view.View.{View}
 use Rattle.host_words.specs.Journals.{Journal, IsPrefix}
 use Rattle.host_words.specs.Words.{code}
+use Rattle.host_words.specs.Places.{covered_by, below, EndBy}
 use Rattle.host_words.specs.Views.{begun, total}
 use Rattle.host_words.specs.Owners.{Owners}
 
@@ -48,21 +48,12 @@ Has t (Waiting u) = t ≡ u
 Has t (Holding u w) = t ≡ u
 Has t (Leaving u w l) = t ≡ u
 
--- how many of the ranges have the place p
-abbrev pub covers : ℕ → List Range → ℕ
-covers p [] = 0
-covers p (r ∷ rs) = (if nat_le r.from p && nat_lt p r.to then 1 else 0) + covers p rs
-
-abbrev pub covered_by : ℕ → View → ℕ
-covered_by p v = covers p v.mine
-
--- 1 where the place is below the end, and else 0
-abbrev pub below : ℕ → ℕ → ℕ
-below p end = if nat_lt p end then 1 else 0
-
--- a seat with a share has the table's origin; one without is spent
+-- a seat with a share has the table's origin, and its number of tags; one without is spent
 abbrev pub IsOf : Origin → View → Type 0
 IsOf origin v = 0 < v.share → v.origin ≡ Some origin
+
+abbrev pub HasTags : ℕ → View → Type 0
+HasTags tags v = 0 < v.share → v.tags ≡ tags
 
 module _ (served drawn : ℕ) (now : Turn) where
   -- what a seat with a number knows of the turn
@@ -96,8 +87,10 @@ module _ {S : Type 0} (origin_of : S → Origin) (journal_of : S → Journal) (t
       pub apart : (j k t : ℕ) (v w : View) → get_elem? s.views j ≡ maybe.some v → get_elem? s.views k ≡ maybe.some w → Has t v.stage → Has t w.stage → j ≡ k
       pub backed : (j : ℕ) (v : View) → get_elem? s.views j ≡ maybe.some v → tickets v ≤ v.share
       pub each_origin : (j : ℕ) (v : View) → get_elem? s.views j ≡ maybe.some v → IsOf about v
+      pub each_tags : (j : ℕ) (v : View) → get_elem? s.views j ≡ maybe.some v → HasTags tags v
       pub each_seen : (j : ℕ) (v : View) → get_elem? s.views j ≡ maybe.some v → IsPrefix v.seen now.base
       pub each_seat : (j : ℕ) (v : View) → get_elem? s.views j ≡ maybe.some v → Knows served drawn now v.stage
+      pub each_range : (j : ℕ) (v : View) → get_elem? s.views j ≡ maybe.some v → EndBy (length now.base) v.mine
       -- each place of the journal is in at most one range of one seat
       pub once : (p : ℕ) → total (covered_by p) s.views ≤ below p (length now.base)
       pub owners : Owners cells now s.views

@@ -1,9 +1,11 @@
 pub mod Journals
 pub mod Words
 pub mod Carried
+pub mod Places
 pub mod Views
 pub mod Owners
 pub mod Leaving
+pub mod Looks
 pub mod Hosted
 pub mod Tells
 pub mod Seats

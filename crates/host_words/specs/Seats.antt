@@ -54,3 +54,7 @@ module _ {S : Type 0} where
 abbrev pub Answers : View → ℕ → Attempt → By → Claim → View → Type 0
 Answers v t n by Won v' = v' ≡ won v t n by
 Answers v t n by (Lost w) v' = (w ≢ Armed n) × (v' ≡ lost v t n w)
+
+abbrev pub IsLost : Claim → Type 0
+IsLost Won = ⊥
+IsLost (Lost w) = Unit {0}

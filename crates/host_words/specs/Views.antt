@@ -1,5 +1,5 @@
 -- What seats know, and what each call does to it.
-use Rattle.std.specs.Prelude.{ℕ, ◌+◌, ◌-◌, nat_le, if◌then◌else◌, List, [], ◌∷◌, ◌++◌, length, slice_set, Option, Some, None}
+use Rattle.std.specs.Prelude.{ℕ, ◌+◌, ◌-◌, List, [], ◌∷◌, ◌++◌, length, slice_set, Option, Some, None}
 use Rattle.mid_base.specs.declared.answers.By.{By}
 use Rattle.mid_base.specs.declared.answers.TagState.{TagState}
 use Rattle.mid_base.specs.declared.answers.TagState.TheVariants as tag
@@ -39,11 +39,11 @@ abbrev pub range : ℕ → ℕ → Range
 range from to = record { from = from; to = to }
 
 -- a seat between turns that has won and lost nothing
-abbrev pub fresh : Option Origin → ℕ → Journal → View
-fresh origin share seen = record { origin = origin; share = share; seen = seen; wins = []; losts = []; mine = []; stage = Away }
+abbrev pub fresh : Option Origin → ℕ → ℕ → Journal → View
+fresh origin tags share seen = record { origin = origin; tags = tags; share = share; seen = seen; wins = []; losts = []; mine = []; stage = Away }
 
-abbrev pub first_view : Origin → Journal → View
-first_view origin seen = fresh (Some origin) 65536 seen
+abbrev pub first_view : Origin → ℕ → Journal → View
+first_view origin tags seen = fresh (Some origin) tags 65536 seen
 
 abbrev pub staged : View → Stage → View
 staged v st = record v { stage = st }
@@ -84,17 +84,20 @@ abbrev pub split_left : View → View
 split_left v = record v { share = v.share - 1 }
 
 abbrev pub split_right : View → View
-split_right v = fresh v.origin 1 v.seen
+split_right v = fresh v.origin v.tags 1 v.seen
 
-abbrev pub longer : Journal → Journal → Journal
-longer xs ys = if nat_le (length xs) (length ys) then ys else xs
+-- xs, and what ys has beyond the length of xs
+abbrev pub grown : Journal → Journal → Journal
+grown [] ys = ys
+grown (x ∷ xs) [] = x ∷ xs
+grown (x ∷ xs) (y ∷ ys) = x ∷ grown xs ys
 
 -- one seat takes in what the other has; the other is spent
 abbrev pub joined : View → View → View
-joined v w = record { origin = v.origin; share = v.share + w.share; seen = longer v.seen w.seen; wins = v.wins ++ w.wins; losts = v.losts ++ w.losts; mine = v.mine ++ w.mine; stage = Away }
+joined v w = record { origin = v.origin; tags = v.tags; share = v.share + w.share; seen = grown v.seen w.seen; wins = v.wins ++ w.wins; losts = v.losts ++ w.losts; mine = v.mine ++ w.mine; stage = Away }
 
 abbrev pub spent : View
-spent = fresh None 0 []
+spent = fresh None 0 0 []
 
 -- f of each view, added up
 abbrev pub total : {V : Type 0} → (V → ℕ) → List V → ℕ

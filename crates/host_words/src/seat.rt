@@ -1,4 +1,4 @@
-ghost use Rattle.std.specs.Prelude.{◌≡◌, ◌≢◌};
+ghost use Rattle.std.specs.Prelude.{◌≡◌, ◌≢◌, ◌+◌};
 ghost use Rattle.host_words.specs.Carried.{carried};
 
 use crate::View;
@@ -13,4 +13,5 @@ pub struct HostSeat<S> {
     pub(crate) seat: Seat<Option<S>, View>,
     ghost carries: { seat.me.1 ≡ carried {S = S} seat.me.0.stage },
     ghost has_share: { seat.me.0.share ≢ 0 },
+    ghost fits_table: { seat.me.0.tags + 2 ≡ seat.table_id.words },
 }

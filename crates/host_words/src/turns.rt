@@ -5,6 +5,7 @@ ghost use Rattle.host_words.specs.Journals.{IsPrefix};
 ghost use Rattle.host_words.specs.Views.{origin_by, first_view, staged, begun, left_view, split_left, split_right, joined};
 ghost use Rattle.host_words.specs.Owners.{OwnersAgree, WonOnce};
 ghost use Rattle.host_words.specs.Leaving.{MayLeave};
+ghost use Rattle.host_words.specs.Places.{AreApart};
 ghost use Rattle.host_words.specs.Seats.{view, turn, tag_count, table_origin, IsSeatOf, IsSameTable, IsAway, IsHolding};
 
 use crate::host_table::{SERVING, TAGS, TICKET};
@@ -25,7 +26,7 @@ impl<S: Booked> HostTable<S> {
     where
         S: Drop,
         requires free { S.tags state ≡ replicate tags TagState.Free }
-        ensures seat { IfOk result (λ t. IsSeatOf t.0 t.1 × (view t.1 ≡ first_view (origin_by S.spec S.before state) (S.journal state))) }
+        ensures seat { IfOk result (λ t. IsSeatOf t.0 t.1 × (view t.1 ≡ first_view (origin_by S.spec S.before state) tags (S.journal state))) }
         ensures table { IfOk result (λ t. (tag_count t.0 ≡ tags) × (table_origin (origin_by S.spec S.before) t.0 ≡ origin_by S.spec S.before state)) }
     {
         let Ok(words) = Vec::from_elem(alloc, 0u64, tags as usize + TAGS) else {
@@ -57,19 +58,21 @@ impl<S: Booked> HostTable<S> {
         HostSeat { seat: given }
     }
 
-    /// Takes another seat in: its share, what it has seen, its claims and its places of the journal.
+    /// Takes another seat in: its share, its claims, its places of the journal, and what it has seen beyond this one.
     pub fn join(&self, seat: &mut HostSeat<S>, other: HostSeat<S>)
         requires table { IsSeatOf self.now seat.old × IsSeatOf self.now other }
         requires away { IsAway seat.old × IsAway other }
         ensures table { IsSameTable seat.old seat.new }
         ensures view { view seat.new ≡ joined (view seat.old) (view other) }
+        ensures later { IsPrefix (view seat.old).seen (view seat.new).seen }
     {
         let HostSeat { seat: other } = other;
         self.table.shared.join_seat::<Glue>(&mut seat.seat, other);
     }
 
-    /// Waits for the turn, and hands the state out. Its journal begins with all that the seat has seen, and whoever owns
-    /// an attempt that the seat has won has it by that claim.
+    /// Waits for the turn, and hands the state out. It has a state for each tag of the table. Its journal begins with all
+    /// that the seat has seen, each place of it is in at most one range of the seat's, and whoever owns an attempt that the
+    /// seat has won has it by that claim.
     ///
     /// Seats have their turns in the order in which they drew their numbers. Between two looks at the number that is
     /// served the thread yields. That the turn comes isn't promised: another seat may never leave.
@@ -79,7 +82,9 @@ impl<S: Booked> HostTable<S> {
         ensures table { IsSameTable seat.old seat.new }
         ensures origin { Some (origin_by S.spec S.before result) ≡ (view seat.old).origin }
         ensures turn { (t : ℕ) × (view seat.new ≡ staged (view seat.old) (Stage.Holding t (begun (S.journal result) (S.tags result)))) }
+        ensures tags { length (S.tags result) ≡ tag_count self.now }
         ensures later { IsPrefix (view seat.old).seen (S.journal result) }
+        ensures places { AreApart (view seat.old).mine (length (S.journal result)) }
         ensures owners { OwnersAgree (view seat.old) (S.journal result) }
     {
         let shared = &self.table.shared;
@@ -113,14 +118,16 @@ impl<S: Booked> HostTable<S> {
     }
 
     /// Ends the table once all other seats were joined, and gives the state. Its journal begins with all that the seat
-    /// has seen, and no attempt was won twice by all the seats that there were.
+    /// has seen. Of all the seats that there were, each place of it is in at most one range, and no attempt was won twice.
     pub fn close(self, seat: HostSeat<S>) -> S
         requires table { IsSeatOf self seat }
         requires share { (view seat).share ≡ 65536 }
         requires away { IsAway seat }
         ensures origin { origin_by S.spec S.before result ≡ table_origin (origin_by S.spec S.before) self }
         ensures seat { Some (origin_by S.spec S.before result) ≡ (view seat).origin }
+        ensures tags { length (S.tags result) ≡ tag_count self }
         ensures later { IsPrefix (view seat).seen (S.journal result) }
+        ensures places { AreApart (view seat).mine (length (S.journal result)) }
         ensures owners { OwnersAgree (view seat) (S.journal result) }
         ensures once { WonOnce (view seat) }
     {

@@ -74,6 +74,8 @@ pub enum Stage {
 pub struct View {
     /// What the table's state begins from; None once the seat is spent.
     pub origin: Option<Origin>,
+    /// How many tags the table has.
+    pub tags: u16,
     /// All seats of a table together have a share of 65,536.
     pub share: u64,
     /// A journal that the kept one begins with.
@@ -101,5 +103,5 @@ impl<S: Booked> TableRule<Option<S>, View, Start<S>> for InTurn {
 
     ghost holds = { λ key. Hosted (origin_by S.spec S.before) S.journal S.tags (origin_by S.spec S.before key.state.value) key.tags };
 
-    ghost first = { λ key. first_view (origin_by S.spec S.before key.state.value) (S.journal key.state.value) };
+    ghost first = { λ key. first_view (origin_by S.spec S.before key.state.value) key.tags (S.journal key.state.value) };
 }

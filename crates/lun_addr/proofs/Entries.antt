@@ -1,5 +1,5 @@
 -- The entries of a list, one after the other, and where they stand in the caller's slice.
-use Rattle.std.proofs.Common.{◌≡◌, ◌/◌, ◌%◌, ℕ, suc, zero, ◌+◌, ◌-◌, ◌*◌, ◌<◌, ◌≤◌, List, [], ◌∷◌, length, drop, length-take, length-drop, None, refl, ap, arith}
+use Rattle.std.proofs.Common.{◌≡◌, ◌/◌, ◌%◌, ℕ, suc, zero, ◌+◌, ◌-◌, ◌*◌, ◌<◌, ◌≤◌, List, [], ◌∷◌, length, drop, length-take, length-drop, None, refl, ap, ◌∙◌, arith}
 use Rattle.std.specs.Prelude.{map, All, slice_index_or, slice_range}
 use Rattle.std.specs.List.{range_with_len}
 use Rattle.std.proofs.lemmas.Bool.Decides.{nat_tests}
@@ -15,6 +15,19 @@ parts_step b k lt =
 
 pub parts_end : (b : Bor (List ℕ)) (k : ℕ) → length b.now / 8 ≤ k → parts_from b k ≡ []
 parts_end b k le = let n : length b.now / 8 - k ≡ 0 = omega arith in rw n refl
+
+length_range : (k n : ℕ) → length (range_with_len k n) ≡ n
+length_range k zero = refl
+length_range k (suc n) = ap suc (length_range (k + 1) n)
+
+length_map : {A B : Type 0} (f : A → B) (xs : List A) → length (map f xs) ≡ length xs
+length_map f [] = refl
+length_map f (x ∷ xs) = ap suc (length_map f xs)
+
+pub as_many_parts : (b : Bor (List ℕ)) → length (entry_parts b) ≡ length b.now / 8
+as_many_parts b =
+    let all : length b.now / 8 - 0 ≡ length b.now / 8 = omega arith in
+    length_map (λ (i : ℕ). part b (8 * i) (8 * i + 8)) (range_with_len 0 (length b.now / 8 - 0)) ∙ length_range 0 (length b.now / 8 - 0) ∙ all
 
 -- what holds of a whole list
 pub record Whole (b : List ℕ) : Type 0 where

@@ -1,3 +1,6 @@
+use std::error::Error;
+use std::fmt;
+
 /// Why bytes aren't a list of logical units (SPC-4, REPORT LUNS parameter data). The first reason that applies,
 /// in this order, is given.
 #[derive(Clone, Copy, PartialEq, Eq, Debug)]
@@ -14,3 +17,26 @@ pub enum ListFault {
 /// methods), and it is neither peripheral device addressing on bus 0 nor flat space addressing.
 #[derive(Clone, Copy, PartialEq, Eq, Debug)]
 pub struct Form(pub u8);
+
+impl fmt::Display for ListFault {
+    fn fmt<W: fmt::Write>(&self, f: &mut fmt::Formatter<W>) -> fmt::Result {
+        match self {
+            ListFault::Short(has) => write!(f, "{has} bytes, and the header has 8"),
+            ListFault::Uneven(told) => write!(
+                f,
+                "a list length of {told} bytes is no multiple of 8"
+            ),
+            ListFault::Cut(told, has) => write!(f, "{has} bytes of a list of {told}"),
+        }
+    }
+}
+
+impl Error for ListFault {}
+
+impl fmt::Display for Form {
+    fn fmt<W: fmt::Write>(&self, f: &mut fmt::Formatter<W>) -> fmt::Result {
+        write!(f, "{:02x}h begins no address that has a number", self.0)
+    }
+}
+
+impl Error for Form {}

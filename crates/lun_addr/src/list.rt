@@ -1,4 +1,4 @@
-ghost use Rattle.std.specs.Prelude.{◌≡◌, ◌≤◌, IfOk, IfErr, IsTrue, All, length};
+ghost use Rattle.std.specs.Prelude.{◌≡◌, ◌≤◌, ◌==◌, IfOk, IfErr, IsTrue, All, length};
 ghost use Rattle.std.specs.Iterator.{YieldsFirst, item_count};
 ghost use Rattle.lun_addr.specs.Grammar.{refusal, is_lun_list};
 ghost use Rattle.lun_addr.specs.Parts.{part, list_part, entry_parts, parts_from};
@@ -10,7 +10,7 @@ use std::marker::Model;
 /// A whole list of logical units in the caller's bytes, as a device gives it (SPC-4, REPORT LUNS parameter data).
 ///
 /// A contract sees the part of the slice that has the entries.
-#[derive(Debug, Drop)]
+#[derive(Clone, Debug, Drop)]
 pub struct LunList<'a> {
     entries: &'a [u8],
 }
@@ -49,6 +49,21 @@ impl<'a> LunList<'a> {
         })
     }
 
+    /// How many entries it has.
+    #[tactic(auto, using(crate::proofs::Entries::as_many_parts))]
+    pub fn len(&self) -> usize
+        ensures { result ≡ length (entry_parts self.now) }
+    {
+        self.entries.len() / 8
+    }
+
+    /// Whether it has none.
+    pub fn is_empty(&self) -> bool
+        ensures { result ≡ (length (entry_parts self.now) == 0) }
+    {
+        self.len() == 0
+    }
+
     /// Each entry, eight bytes, in order, as parts of the slice that was read.
     #[tactic(auto, using(crate::proofs::Entries::eight_each))]
     pub fn iter(&self) -> LunIter<'a>
@@ -73,7 +88,7 @@ fn part_of(b: &[u8], from: usize, to: usize) -> &[u8]
 
 /// The entries that are left of a list, each a part of eight bytes of the bytes that were read. A contract sees the list
 /// of them.
-#[derive(Debug, Drop)]
+#[derive(Clone, Debug, Drop)]
 pub struct LunIter<'a> {
     entries: &'a [u8],
     next: usize,

@@ -169,3 +169,33 @@ fn a_list_of_256_is_written_and_read(rt: HostRuntime) -> Result<(), Fail> {
     assert_eq!(rt; LunList::read(&buffer)?.iter().count(), 256);
     Ok(())
 }
+
+#[test]
+fn a_list_tells_how_many_entries_it_has(rt: HostRuntime) -> Result<(), Fail> {
+    let mut reply = [0; 32];
+    reply[3] = 24;
+    assert_eq!(rt; LunList::read(&reply)?.len(), 3);
+    Ok(())
+}
+
+#[test]
+fn a_list_without_entries_is_empty(rt: HostRuntime) -> Result<(), Fail> {
+    assert!(rt; LunList::read(&[0; 8])?.is_empty());
+    Ok(())
+}
+
+#[test]
+fn faults_are_told_in_words(rt: HostRuntime) -> Result<(), Fail> {
+    let told = format!(in rt.alloc();
+        "{}; {}; {}; {}",
+        ListFault::Short(3),
+        ListFault::Uneven(12),
+        ListFault::Cut(16, 8),
+        Form(0xc1)
+    )?;
+    assert_eq!(rt;
+        told.as_str(),
+        "3 bytes, and the header has 8; a list length of 12 bytes is no multiple of 8; 8 bytes of a list of 16; c1h begins no address that has a number"
+    );
+    Ok(())
+}

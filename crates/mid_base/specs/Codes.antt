@@ -1,4 +1,4 @@
--- Host bytes and status bytes by their names.
+-- Host bytes, status bytes and operation codes by their names.
 use Rattle.std.specs.Prelude.{ℕ}
 
 -- Host bytes, as the Linux kernel's scsi_status.h names and numbers them.
@@ -62,3 +62,19 @@ aca_active = 48
 
 abbrev pub task_aborted : ℕ
 task_aborted = 64
+
+-- Operation codes of the commands that recovery and scanning send (SPC-4 clause 6; START STOP UNIT: SBC-3, 5.25).
+abbrev pub test_unit_ready : ℕ
+test_unit_ready = 0
+
+abbrev pub request_sense : ℕ
+request_sense = 3
+
+abbrev pub inquiry : ℕ
+inquiry = 18
+
+abbrev pub start_stop_unit : ℕ
+start_stop_unit = 27
+
+abbrev pub report_luns : ℕ
+report_luns = 160

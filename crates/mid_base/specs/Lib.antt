@@ -6,3 +6,5 @@ pub mod Limits
 pub mod Codes
 pub mod Answers
 pub mod Callbacks
+pub mod Levels
+pub mod Depths

@@ -1,5 +1,5 @@
 -- The limits that the spec of a host keeps.
-use Rattle.std.specs.Prelude.{ℕ, ◌==◌, ◌≡◌, Bool, true, not, ◌&&◌, List, [], ◌∷◌, length, nat_le, nat_lt}
+use Rattle.std.specs.Prelude.{ℕ, ◌-◌, ◌^◌, ◌==◌, ◌≡◌, Bool, true, not, ◌&&◌, List, [], ◌∷◌, length, nat_le, nat_lt}
 use Rattle.std.specs.List.{list_any, list_all}
 use Rattle.mid_base.specs.declared.names.DevAddr.{DevAddr}
 use Rattle.mid_base.specs.declared.faults.Fault.{Fault}
@@ -9,6 +9,11 @@ use Rattle.mid_base.specs.declared.host_spec.CmdSpec.{CmdSpec}
 use Rattle.mid_base.specs.declared.host_spec.LunSpec.{LunSpec}
 use Rattle.mid_base.specs.declared.host_spec.HostSpec.{HostSpec}
 use Rattle.mid_base.specs.Address.{has_dev}
+use Rattle.mid_base.specs.Bytes.{cdb_list}
+
+-- the number that no attempt gets and no tick passes
+abbrev pub last_number : ℕ
+last_number = 2 ^ 60 - 1
 
 abbrev pub is_between : ℕ → ℕ → ℕ → Bool
 is_between low high n = nat_le low n && nat_le n high
@@ -19,11 +24,15 @@ is_address d = nat_le d.channel 15 && nat_le d.target 255 && nat_le d.lun 16383
 abbrev pub is_lun : LunSpec → Bool
 is_lun l = is_address l.dev && is_between 1 4294967295 l.blocks && is_between 1 1024 l.depth
 
+-- its block has 1 to 16 bytes (SPC-4, 4.3)
+abbrev pub has_block : CmdSpec → Bool
+has_block k = is_between 1 16 (length (cdb_list k.cdb))
+
 -- the command names one of these units
 abbrev pub is_command : List LunSpec → CmdSpec → Bool
 is_command luns k =
     has_dev luns k.dev && is_between 1 4294967295 k.id.0 && nat_le k.lane.0 63
-    && is_between 1 10000 k.timeout && nat_le k.allowed 20
+    && is_between 1 10000 k.timeout && nat_le k.allowed 20 && has_block k
 
 abbrev pub is_fault : Fault → Bool
 is_fault (Latency ticks) = is_between 1 10000 ticks

@@ -1,4 +1,6 @@
 use crate::{Attempt, CmdId, DevAddr, HostByte, SenseBytes};
+use std::error::Error;
+use std::fmt;
 
 /// What a lower layer answers to a command: the host byte, the status byte of SAM-5 5.3, the sense data that came with
 /// it, the number of data bytes that were moved, and the sum of the data-in bytes as a number, 0 where none came in.
@@ -31,6 +33,14 @@ pub enum BusyOf {
 /// An allocation failed. Unless a call says otherwise, it has changed nothing then.
 #[derive(Clone, Copy, PartialEq, Eq, Debug)]
 pub struct NoMemory;
+
+impl fmt::Display for NoMemory {
+    fn fmt<W: fmt::Write>(&self, f: &mut fmt::Formatter<W>) -> fmt::Result {
+        f.write_str("out of memory")
+    }
+}
+
+impl Error for NoMemory {}
 
 /// The verdict on an answer: the command is finished, sent again as a retry, sent again without counting, or given to the
 /// error handler (`scsi_eh.rst`, "Completing a scmd w/ scsi_done").

@@ -1,9 +1,11 @@
 ghost use Rattle.std.specs.Prelude.{◌≡◌, ◌<◌, ◌≤◌, length};
 ghost use Rattle.mid_base.specs.Padded.{IsPadded};
 
+use std::fmt;
+
 /// A command descriptor block of 1 to 16 bytes (SPC-4, 4.3). The bytes past `len` are zero, so equal lists are equal
 /// values. A contract names the list by `cdb_list`.
-#[derive(Clone, Copy, PartialEq, Eq, Debug)]
+#[derive(Clone, Copy, PartialEq, Eq)]
 pub struct CdbBytes {
     len: u8,
     bytes: [u8; 16],
@@ -38,7 +40,7 @@ impl CdbBytes {
 
 /// Sense data of 0 to 252 bytes (SPC-4, 4.5). The bytes past `len` are zero, so equal lists are equal values. A contract
 /// names the list by `sense_list`.
-#[derive(Clone, Copy, PartialEq, Eq, Debug)]
+#[derive(Clone, Copy, PartialEq, Eq)]
 pub struct SenseBytes {
     len: u8,
     bytes: [u8; 252],
@@ -79,9 +81,33 @@ impl SenseBytes {
     }
 }
 
+impl fmt::Debug for CdbBytes {
+    fn fmt<W: fmt::Write>(&self, f: &mut fmt::Formatter<W>) -> fmt::Result {
+        write_hex(f, self.as_slice())
+    }
+}
+
+impl fmt::Debug for SenseBytes {
+    fn fmt<W: fmt::Write>(&self, f: &mut fmt::Formatter<W>) -> fmt::Result {
+        write_hex(f, self.as_slice())
+    }
+}
+
+// Each byte in two hexadecimal digits, and `-` for none, as a journal is printed.
+fn write_hex<W: fmt::Write>(f: &mut fmt::Formatter<W>, bytes: &[u8]) -> fmt::Result {
+    if bytes.is_empty() {
+        return f.write_str("-");
+    }
+    for byte in bytes {
+        write!(f, "{byte:02x}")?;
+    }
+    Ok(())
+}
+
 #[cfg(test)]
 mod tests {
     use super::*;
+    use std::alloc::AllocError;
 
     #[test]
     fn bytes_come_back_and_equal_lists_are_equal_values(rt: HostRuntime) {
@@ -107,5 +133,14 @@ mod tests {
         assert!(rt; CdbBytes::from_slice(&[0]) != CdbBytes::from_slice(&[0, 0]));
         assert!(rt; SenseBytes::from_slice(&[0]) != SenseBytes::empty());
         assert_eq!(rt; SenseBytes::from_slice(&[]), SenseBytes::empty());
+    }
+
+    #[test]
+    fn bytes_are_shown_in_hexadecimal_digits(rt: HostRuntime) -> Result<(), AllocError> {
+        let cdb = CdbBytes::from_slice(&[0x28, 0, 0xff]);
+        let sense = SenseBytes::from_slice(&[0x70, 0x0a]);
+        let shown = format!(in rt.alloc(); "{cdb:?} {sense:?} {:?}", SenseBytes::empty())?;
+        assert_eq!(rt; shown.as_str(), "2800ff 700a -");
+        Ok(())
     }
 }

@@ -44,3 +44,43 @@ pub const TASK_SET_FULL: u8 = 0x28;
 pub const ACA_ACTIVE: u8 = 0x30;
 
 pub const TASK_ABORTED: u8 = 0x40;
+
+#[cfg(test)]
+mod tests {
+    use super::*;
+
+    #[test]
+    fn host_bytes_are_numbered_as_in_the_kernel(rt: HostRuntime) {
+        let bytes = [
+            DID_OK,
+            DID_NO_CONNECT,
+            DID_BUS_BUSY,
+            DID_TIME_OUT,
+            DID_BAD_TARGET,
+            DID_ABORT,
+            DID_PARITY,
+            DID_ERROR,
+            DID_RESET,
+            DID_SOFT_ERROR,
+            DID_IMM_RETRY,
+            DID_REQUEUE,
+        ]
+        .map(|byte| byte.0);
+        assert_eq!(rt; bytes, [0, 1, 2, 3, 4, 5, 6, 7, 8, 11, 12, 13]);
+    }
+
+    #[test]
+    fn statuses_are_numbered_as_in_the_standard(rt: HostRuntime) {
+        let statuses = [
+            GOOD,
+            CHECK_CONDITION,
+            CONDITION_MET,
+            BUSY,
+            RESERVATION_CONFLICT,
+            TASK_SET_FULL,
+            ACA_ACTIVE,
+            TASK_ABORTED,
+        ];
+        assert_eq!(rt; statuses, [0x00, 0x02, 0x04, 0x08, 0x18, 0x28, 0x30, 0x40]);
+    }
+}

@@ -26,8 +26,14 @@ pub use codes::{
 pub use entries::Entry;
 pub use faults::{Fault, PlanEntry};
 pub use host_spec::{CmdSpec, Handlers, HostSpec, LunSpec};
-pub use laws::{equal_cdb_lists_are_equal, equal_sense_lists_are_equal};
-pub use names::{Attempt, CmdId, DevAddr, HostByte, HostNo, LaneNo, Tag, Tick, same_dev};
+pub use laws::{
+    callbacks_have_their_bits, equal_cdb_lists_are_equal, equal_sense_lists_are_equal,
+    host_bytes_have_their_numbers, levels_have_their_numbers, operation_codes_have_their_numbers,
+    statuses_have_their_numbers,
+};
+pub use names::{
+    Attempt, CmdId, DevAddr, HostByte, HostNo, LAST_NUMBER, LaneNo, Tag, Tick, same_dev,
+};
 pub use rows::Rows;
 pub use states::{DeviceState, HostState};
 pub use steps::{Did, Step, Why};

@@ -27,6 +27,9 @@ pub struct Attempt(pub u64);
 #[derive(Clone, Copy, PartialEq, Eq, PartialOrd, Ord, Debug)]
 pub struct Tick(pub u64);
 
+/// The number at which a host stops sending and counting: no attempt gets it, and no tick passes it.
+pub const LAST_NUMBER: u64 = (1 << 60) - 1;
+
 /// The address of a logical unit: channel 0 to 15, target 0 to 255, logical unit number 0 to 16,383 (SAM-5, the flat
 /// space addressing method).
 #[derive(Clone, Copy, PartialEq, Eq, PartialOrd, Ord, Debug)]

@@ -1,5 +1,5 @@
 -- The group of each step is one that the rules allow, and nothing bars the step.
-use Rattle.std.proofs.Common.{◌≡◌, ◌∙◌, sym, ap, subst, refl, ℕ, zero, suc, ◌+◌, ◌<◌, ◌==◌, Bool, true, false, not, ◌&&◌, ◌||◌, cond, List, [], ◌∷◌, None, Some, Ok, Err, arith}
+use Rattle.std.proofs.Common.{◌≡◌, ◌∙◌, sym, ap, subst, refl, ℕ, zero, suc, ◌+◌, ◌<◌, ◌==◌, Bool, true, false, not, ◌&&◌, ◌||◌, cond, List, [], ◌∷◌, Option, None, Some, is_some, Ok, Err, arith}
 use Rattle.std.specs.Prelude.{nat_le, nat_lt}
 use Rattle.std.specs.List.{list_any, list_all}
 use Rattle.std.proofs.lemmas.Option.{same_Some}
@@ -33,13 +33,15 @@ use Rattle.trace_model.specs.Judging.{disp_of, to_judge}
 use Rattle.trace_model.specs.Legal.{Group}
 use Rattle.trace_model.specs.Names.{command, dev_of}
 use Rattle.trace_model.specs.Sending.{is_next_of_lane, is_refused, is_stranded, is_least_free}
-use Rattle.trace_model.specs.Steps.{barred, opens, most}
+use Rattle.mid_base.specs.Limits.{last_number}
+use Rattle.trace_model.specs.Steps.{barred, opens}
 use Rattle.trace_model.specs.Time.{is_expired, is_claimed}
-use Rattle.attempt_table.specs.declared.rows.Phase.TheVariants as phase
 use Rattle.attempt_table.specs.declared.rows.Row.{Row}
-use Rattle.attempt_table.specs.Rows.{row_of, claimed_in, claimed_at, owner_in, owner_at, settled_in, settled_at, answer_in, answer_at, command_in}
+use Rattle.attempt_table.specs.Rows.{row_of, claims_by, owner_in, settled_in, answer_in, command_in}
+use Rattle.attempt_table.proofs.Told.{answer_known}
+use Rattle.mid_base.specs.declared.answers.By.{By}
 use Rattle.host_state.specs.declared.running.Running.{Running}
-use Rattle.host_state.specs.Runs.{Runs}
+use Rattle.host_state.specs.HostAgrees.{HostAgrees, IsOwned}
 use Rattle.host_template.specs.Laws.{IsSilent}
 use Rattle.mid_core.specs.Steps.{may_enter}
 use Rattle.mid_core.specs.Choices.{IsHandedIn, HasTurn, MayBeSent, IsHanded, follow_of}
@@ -55,7 +57,7 @@ or_true true = refl
 or_true false = refl
 
 -- the command that is handed in
-module _ (s : HostSpec) (P : List Entry) (r : Running) (runs : Runs s P r) (lane : LaneNo) (i : ℕ) (closed : Bool) (h : IsHandedIn s P r lane i closed) where
+module _ (s : HostSpec) (P : List Entry) (r : Running) (runs : HostAgrees s P r) (lane : LaneNo) (i : ℕ) (closed : Bool) (h : IsHandedIn s P r lane i closed) where
   named : command s h.next.command.id.0 ≡ h.next.command
   named = command_of s P r runs i h.next.command h.next.stands_at
 
@@ -87,7 +89,7 @@ module _ (s : HostSpec) (P : List Entry) (r : Running) (runs : Runs s P r) (lane
   group_refused off = (rw (refused off) refl, tt)
 
 -- the command whose turn it is
-module _ (s : HostSpec) (P : List Entry) (r : Running) (runs : Runs s P r) (i : ℕ) (online : Bool) (h : HasTurn s P r i online) where
+module _ (s : HostSpec) (P : List Entry) (r : Running) (runs : HostAgrees s P r) (i : ℕ) (online : Bool) (h : HasTurn s P r i online) where
   picked_online : is_online s (dev_of s h.picked.command.id.0) P ≡ online
   picked_online = ap (λ (k : CmdSpec). is_online s k.dev P) (picked_command s P r runs i h.picked) ∙ h.device
 
@@ -102,7 +104,7 @@ module _ (s : HostSpec) (P : List Entry) (r : Running) (runs : Runs s P r) (i : 
       (rw (h.calm, h.picked.picked, picked_online, on, same h.picked.command.id.0, eq-eqb n.0 (sends P + 1) number, least) refl, tt)
 
 -- what was handed over was the command that is picked
-pub group_handed : (s : HostSpec) (P : List Entry) (r new : Running) → Runs s P r → (i : ℕ) (may : MayBeSent s P r i) (o : Handed) → IsHanded s P new i o
+pub group_handed : (s : HostSpec) (P : List Entry) (r new : Running) → HostAgrees s P r → (i : ℕ) (may : MayBeSent s P r i) (o : Handed) → IsHanded s P new i o
     → Group s P (entry.Sent o.id o.attempt o.tag ∷ [])
 group_handed s P r new runs i may o told =
     let picked = may.turn.picked in
@@ -114,47 +116,53 @@ pub group_bounced : (s : HostSpec) (P : List Entry) (c : CmdId) (n : Attempt) (t
 group_bounced s P c n t why = (rw (same c.0, same n.0) refl, tt)
 
 -- an attempt with an answer
-module _ (s : HostSpec) (P : List Entry) (r : Running) (runs : Runs s P r) (n : Attempt) (row : Row) (a : Answer) (at : row_of n.0 r.attempts.rows.items ≡ Some row) where
-  may_own : row.phase ≡ phase.Answered a → is_open n.0 P && is_answered n.0 P ≡ true
-  may_own is = (runs.attempts.rows n.0).2 ∙ ap claimed_in at ∙ ap claimed_at is
+module _ (s : HostSpec) (P : List Entry) (r : Running) (runs : HostAgrees s P r) (n : Attempt) (waits : claims_by ByAnswer (row_of n.0 r.attempts.rows.items) ≡ true) where
+  may_own : is_open n.0 P && is_answered n.0 P ≡ true
+  may_own = (runs.attempts.0.rows n.0).2 ∙ waits
 
-  pub group_owned : row.phase ≡ phase.Answered a → Group s P (entry.Owned n ByAnswer ∷ [])
-  group_owned is = (may_own is, tt)
+  pub group_owned : Group s P (entry.Owned n ByAnswer ∷ [])
+  group_owned = (may_own, tt)
 
-  pub nothing_bars_owning : (due : Bool) → row.phase ≡ phase.Answered a → barred s due P (step.Own n ByAnswer) ≡ None
-  nothing_bars_owning due is =
-      let both = and_parts (is_open n.0 P) (is_answered n.0 P) (may_own is) in
+  pub nothing_bars_owning : (due : Bool) → barred s due P (step.Own n ByAnswer) ≡ None
+  nothing_bars_owning due =
+      let both = and_parts (is_open n.0 P) (is_answered n.0 P) may_own in
       rw (both.0, both.1) refl
 
-  pub opens_owned : opens s P (step.Own n ByAnswer) (entry.Owned n ByAnswer) ≡ true
-  opens_owned = rw (same n.0) refl
+pub opens_owned : (s : HostSpec) (P : List Entry) (n : Attempt) → opens s P (step.Own n ByAnswer) (entry.Owned n ByAnswer) ≡ true
+opens_owned s P n = rw (same n.0) refl
 
-  -- one that it owns
-  owned_by : row.phase ≡ phase.Owned a → owner n.0 P ≡ Some ByAnswer
-  owned_by is = (runs.attempts.rows n.0).4 ∙ ap owner_in at ∙ ap owner_at is
+-- one that it owns
+module _ (s : HostSpec) (P : List Entry) (r : Running) (runs : HostAgrees s P r) (n : Attempt) (row : Row) (a : Answer) (is : IsOwned r n row a) where
+  owned_by : owner n.0 P ≡ Some ByAnswer
+  owned_by = (runs.attempts.0.rows n.0).4 ∙ ap owner_in is.at ∙ is.owner
 
-  unsettled : row.phase ≡ phase.Owned a → is_settled n.0 P ≡ false
-  unsettled is = (runs.attempts.rows n.0).5 ∙ ap settled_in at ∙ ap settled_at is
+  unsettled : is_settled n.0 P ≡ false
+  unsettled = (runs.attempts.0.rows n.0).5 ∙ ap settled_in is.at ∙ by_fields row.out row.settled row.owner is.owned
+    where
+      by_fields : (o e : Bool) (w : Option By) → not o && not e && is_some w ≡ true → e ≡ false
+      by_fields o false w owned = refl
+      by_fields true true w owned = cc
+      by_fields false true w owned = cc
 
-  pub nothing_bars_settling : (due : Bool) → row.phase ≡ phase.Owned a → barred s due P (step.Settle n) ≡ None
-  nothing_bars_settling due is = rw (owned_by is, unsettled is) refl
+  pub nothing_bars_settling : (due : Bool) → barred s due P (step.Settle n) ≡ None
+  nothing_bars_settling due = rw (owned_by, unsettled) refl
 
-  judging : row.phase ≡ phase.Owned a → to_judge P row.command.0 n.0 && not (has_begun P) ≡ true
-  judging is =
-      let sent : sent_for n.0 P ≡ row.command.0 = (runs.attempts.rows n.0).6 ∙ ap command_in at in
-      rw (owned_by is, unsettled is, sent, same row.command.0, runs.calm) refl
+  judging : to_judge P row.command.0 n.0 && not (has_begun P) ≡ true
+  judging =
+      let sent : sent_for n.0 P ≡ row.command.0 = (runs.attempts.0.rows n.0).6 ∙ ap command_in is.at in
+      rw (owned_by, unsettled, sent, same row.command.0, runs.calm) refl
 
-  pub group_judged : (d : Disp) → row.phase ≡ phase.Owned a → d ≡ disp_of s P row.command.0 a → Group s P (entry.Judged row.command n d ∷ follow_of row.command n a d ∷ [])
-  group_judged d is right = by d right
+  pub group_judged : (d : Disp) → d ≡ disp_of s P row.command.0 a → Group s P (entry.Judged row.command n d ∷ follow_of row.command n a d ∷ [])
+  group_judged d right = by d right
     where
       told : answer n.0 P ≡ Some a
-      told = (runs.attempts.rows n.0).3 ∙ ap answer_in at ∙ ap answer_at is
+      told = answer_known s P r.attempts runs.attempts n.0 a (ap (answer_in r.attempts.kept.items) is.at ∙ is.answer)
 
       by : (d : Disp) → d ≡ disp_of s P row.command.0 a → Group s P (entry.Judged row.command n d ∷ follow_of row.command n a d ∷ [])
-      by Success e = rw told ((judging is, e), (refl, tt))
-      by Retry e = rw told ((judging is, e), (refl, tt))
-      by Requeue e = rw told ((judging is, e), (refl, tt))
-      by Fail e = rw told ((judging is, e), (refl, tt))
+      by Success e = rw told ((judging, e), (refl, tt))
+      by Retry e = rw told ((judging, e), (refl, tt))
+      by Requeue e = rw told ((judging, e), (refl, tt))
+      by Fail e = rw told ((judging, e), (refl, tt))
 
   pub opens_judged : (d : Disp) → opens s P (step.Settle n) (entry.Judged row.command n d) ≡ true
   opens_judged d = same n.0
@@ -182,7 +190,7 @@ first_off true a b h = absurd (false≢true (sym h))
 first_off false true b h = absurd (false≢true (sym h))
 first_off false false b h = (refl, h)
 
-none_expired : (P : List Entry) (xs : List ℕ) (f : ℕ → Bool) → list_any (λ n. f n || (is_open n P && is_due n P)) xs ≡ false → list_any f xs ≡ false
+pub none_expired : (P : List Entry) (xs : List ℕ) (f : ℕ → Bool) → list_any (λ n. f n || (is_open n P && is_due n P)) xs ≡ false → list_any f xs ≡ false
 none_expired P [] f b = refl
 none_expired P (x ∷ xs) f b =
     let here = first_off (f x) (is_open x P && is_due x P) (list_any (λ n. f n || (is_open n P && is_due n P)) xs) b in
@@ -212,8 +220,8 @@ module _ (s : HostSpec) (P : List Entry)
       halves true b h = absurd (false≢true (sym h))
       halves false b h = (refl, h)
 
-  pub nothing_bars_a_tick : (due : Bool) → due ≡ false → ticks P < most → barred s due P step.Tick ≡ None
-  nothing_bars_a_tick due idle early = rw (idle, unclaimed, unexpired) (by (nat_le most (ticks P)) (above most (ticks P) early))
+  pub nothing_bars_a_tick : (due : Bool) → due ≡ false → ticks P < last_number → barred s due P step.Tick ≡ None
+  nothing_bars_a_tick due idle early = rw (idle, unclaimed, unexpired) (by (nat_le last_number (ticks P)) (above last_number (ticks P) early))
     where
       by : (b : Bool) → b ≡ false → cond b (Some Spent) None ≡ None
       by true is = cc

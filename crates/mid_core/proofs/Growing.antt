@@ -7,11 +7,11 @@ use Rattle.host_template.specs.Standing.{Before, Standing}
 use Rattle.trace_model.specs.Legal.{Group, onto}
 use Rattle.trace_model.proofs.Making.{goes_on_back}
 use Rattle.host_state.specs.declared.running.Running.{Running}
-use Rattle.host_state.specs.Runs.{Runs}
+use Rattle.host_state.specs.HostAgrees.{HostAgrees}
 use Rattle.mid_core.specs.View.{IsCore}
 
 pub core_grows : {A : Type 0} (stands : A → Standing) (spec : HostSpec) (before : Before) (lower later : A) (P g : List Entry) (r new : Running) → IsCore stands spec before lower P r
-    → Group spec P g → stands later spec before (onto g P) → Runs spec (onto g P) new → IsCore stands spec before later (onto g P) new
+    → Group spec P g → stands later spec before (onto g P) → HostAgrees spec (onto g P) new → IsCore stands spec before later (onto g P) new
 core_grows stands spec before lower later P g r new core may stood runs = record {
   legal = goes_on_back spec P g core.legal may;
   stood = stood;

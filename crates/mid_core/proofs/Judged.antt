@@ -1,7 +1,7 @@
 -- The disposition of an answer, and what follows it.
 use Rattle.std.proofs.Common.{◌≡◌, ◌∙◌, sym, ap, refl, ℕ, zero, suc, ◌<◌, ◌≤◌, Bool, true, false, not, ◌&&◌, List, [], ◌∷◌, Some, length}
 use Rattle.std.specs.List.{list_all}
-use Rattle.std.specs.Prelude.{nat_lt, slice_get}
+use Rattle.std.specs.Prelude.{nat_lt, slice_get, nat_le}
 use Rattle.std.proofs.lemmas.Bool.{ltb-true, leb-true, and_parts}
 use Rattle.std.proofs.lemmas.Option.{same_Some, none-some, slice_get_within}
 use Rattle.mid_base.specs.declared.answers.Answer.{Answer}
@@ -11,7 +11,7 @@ use Rattle.mid_base.specs.declared.entries.Entry.{Entry}
 use Rattle.mid_base.specs.declared.host_spec.CmdSpec.{CmdSpec}
 use Rattle.mid_base.specs.declared.host_spec.HostSpec.{HostSpec}
 use Rattle.mid_base.specs.declared.names.Attempt.{Attempt}
-use Rattle.mid_base.specs.Limits.{KeepsLimits, is_command}
+use Rattle.mid_base.specs.Limits.{KeepsLimits, is_command, has_block}
 use Rattle.mid_base.specs.declared.names.CmdId.{CmdId}
 use Rattle.mid_base.specs.declared.states.DeviceState.{DeviceState}
 use Rattle.device_states.specs.States.{is_online_state}
@@ -20,14 +20,12 @@ use Rattle.trace_model.specs.Commands.{retries}
 use Rattle.trace_model.specs.Devices.{is_online}
 use Rattle.trace_model.specs.Judging.{disp_of}
 use Rattle.trace_model.specs.Names.{command, dev_of}
-use Rattle.attempt_table.specs.declared.rows.Phase.TheVariants as phase
 use Rattle.attempt_table.specs.declared.rows.Row.{Row}
-use Rattle.attempt_table.specs.Rows.{row_of}
 use Rattle.command_table.specs.declared.rows.CommandRow.{CommandRow}
 use Rattle.command_table.proofs.Entries.{reads_at, id_is}
 use Rattle.device_table.specs.declared.rows.DeviceRow.{DeviceRow}
 use Rattle.host_state.specs.declared.running.Running.{Running}
-use Rattle.host_state.specs.Runs.{Runs}
+use Rattle.host_state.specs.HostAgrees.{HostAgrees, IsOwned}
 use Rattle.host_state.proofs.Settled.{settles}
 use Rattle.mid_core.proofs.Known.{spec_within, command_there, state_there}
 
@@ -52,24 +50,24 @@ all_at p (y ∷ xs) (suc i) x all at = all_at p xs i x (and_parts (p y) (list_al
 -- a command has at most 20 retries
 pub few_allowed : (s : HostSpec) → KeepsLimits s → (i : ℕ) (k : CmdSpec) → slice_get s.cmds i ≡ Some k → k.allowed ≤ 20
 few_allowed s limits i k at =
-    leb-true k.allowed 20 (and_parts _ _ (all_at (is_command s.luns) s.cmds i k limits.commands at)).1
+    leb-true k.allowed 20 (and_parts _ (nat_le k.allowed 20) (and_parts _ (has_block k) (all_at (is_command s.luns) s.cmds i k limits.commands at)).0).1
 
 -- of an attempt that its answer owns
-module _ (s : HostSpec) (P : List Entry) (r : Running) (runs : Runs s P r) (n : Attempt) (row : Row) (a : Answer) (at : row_of n.0 r.attempts.rows.items ≡ Some row) (phase_is : row.phase ≡ phase.Owned a) where
+module _ (s : HostSpec) (P : List Entry) (r : Running) (runs : HostAgrees s P r) (n : Attempt) (row : Row) (a : Answer) (is : IsOwned r n row a) where
   pub place_within : row.place < length r.commands.rows.items
   place_within =
-      let there = settles s P r runs n row a at phase_is in
+      let there = settles s P r runs n row a is in
       slice_get_within r.commands.rows.items row.place there.command there.at
 
   pub command_within : row.place < length s.cmds
   command_within =
-      let there = settles s P r runs n row a at phase_is in
+      let there = settles s P r runs n row a is in
       spec_within s P r runs row.place there.command there.at
 
   -- its command's id, by the command's row
   pub id_there : (kept : CommandRow) → slice_get r.commands.rows.items row.place ≡ Some kept → kept.id ≡ row.command
   id_there kept kept_at =
-      let there = settles s P r runs n row a at phase_is in
+      let there = settles s P r runs n row a is in
       id_is row.place r.commands.rows.items kept row.command kept_at there.id
 
   pub disposition_is : (k : CmdSpec) (kept : CommandRow) (x : DeviceState) → slice_get s.cmds row.place ≡ Some k → slice_get r.commands.rows.items row.place ≡ Some kept

@@ -14,13 +14,13 @@ use Rattle.command_table.specs.declared.rows.CommandRow.{CommandRow}
 use Rattle.command_table.specs.Rows.{id_at}
 use Rattle.device_table.specs.declared.rows.DeviceRow.{DeviceRow}
 use Rattle.device_table.specs.Rows.{dev_at}
-use Rattle.device_table.proofs.Entries.{command_is, dev_is}
+use Rattle.device_table.proofs.Entries.{command_is, dev_is, dev_row}
 use Rattle.host_state.specs.declared.running.Running.{Running}
 use Rattle.host_state.specs.Picks.{IsPicked}
-use Rattle.host_state.specs.Runs.{Runs}
+use Rattle.host_state.specs.HostAgrees.{HostAgrees}
 use Rattle.host_state.proofs.Ties.{of_device, of_device_at}
 
-module _ (s : HostSpec) (P : List Entry) (r : Running) (runs : Runs s P r) (i : ℕ) (row : CommandRow) (at : slice_get r.commands.rows.items i ≡ Some row) where
+module _ (s : HostSpec) (P : List Entry) (r : Running) (runs : HostAgrees s P r) (i : ℕ) (row : CommandRow) (at : slice_get r.commands.rows.items i ≡ Some row) where
   -- the device of the command has a row
   pub device_within : row.device < length r.devices.rows.items
   device_within =
@@ -52,22 +52,15 @@ module _ (s : HostSpec) (P : List Entry) (r : Running) (runs : Runs s P r) (i : 
   state_of k there x says = ap (λ (j : CmdSpec). state s j.dev P) (sym (command_there k there)) ∙ state_there x says
 
 -- the command that is picked is the spec's
-pub picked_command : (s : HostSpec) (P : List Entry) (r : Running) → Runs s P r → (i : ℕ) (picked : IsPicked s P r i) → command s picked.command.id.0 ≡ picked.command
+pub picked_command : (s : HostSpec) (P : List Entry) (r : Running) → HostAgrees s P r → (i : ℕ) (picked : IsPicked s P r i) → command s picked.command.id.0 ≡ picked.command
 picked_command s P r runs i picked =
     ap (λ (c : CmdId). command s c.0) (sym picked.id) ∙ command_there s P r runs i picked.row picked.row_at picked.command picked.at
 
 -- the place of a device, and its state
-pub dev_row : (rows : List DeviceRow) (i : ℕ) (d : DevAddr) → dev_at i rows ≡ Some d → (q : DeviceRow) × (slice_get rows i ≡ Some q) × (q.dev ≡ d)
-dev_row rows i d is = by_row (slice_get rows i) refl is
-  where
-    by_row : (o : Option DeviceRow) → slice_get rows i ≡ o → option_map (λ (q : DeviceRow). q.dev) o ≡ Some d → (q : DeviceRow) × (slice_get rows i ≡ Some q) × (q.dev ≡ d)
-    by_row None at e = absurd (none-some d e)
-    by_row (Some q) at e = (q, at, same_Some q.dev d e)
-
 pub dev_within : (rows : List DeviceRow) (i : ℕ) (d : DevAddr) → dev_at i rows ≡ Some d → i < length rows
 dev_within rows i d is = let there = dev_row rows i d is in slice_get_within rows i there.0 there.1
 
-pub dev_state : (s : HostSpec) (P : List Entry) (r : Running) → Runs s P r → (i : ℕ) (d : DevAddr) → dev_at i r.devices.rows.items ≡ Some d
+pub dev_state : (s : HostSpec) (P : List Entry) (r : Running) → HostAgrees s P r → (i : ℕ) (d : DevAddr) → dev_at i r.devices.rows.items ≡ Some d
     → (x : DeviceState) → ((q : DeviceRow) → slice_get r.devices.rows.items i ≡ Some q → x ≡ q.state) → state s d P ≡ x
 dev_state s P r runs i d is x says =
     let there = dev_row r.devices.rows.items i d is in

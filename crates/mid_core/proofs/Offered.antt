@@ -22,11 +22,11 @@ use Rattle.command_table.specs.declared.commands.Commands.{Commands}
 use Rattle.command_table.specs.Rows.{id_at}
 use Rattle.command_table.specs.declared.rows.CommandRow.{CommandRow}
 use Rattle.device_table.specs.declared.devices.Devices.{Devices}
-use Rattle.device_table.specs.Keeps.{goes_in}
+use Rattle.device_table.specs.DevicesAgree.{goes_in}
 use Rattle.device_table.proofs.Counts.{find_one}
 use Rattle.host_state.specs.declared.running.Running.{Running}
 use Rattle.host_state.specs.Picks.{IsPicked, CanSend}
-use Rattle.host_state.specs.Runs.{Runs}
+use Rattle.host_state.specs.HostAgrees.{HostAgrees}
 use Rattle.mid_core.specs.Choices.{MayBeSent, bounced, who_was_busy}
 
 -- the entries for an answer of the lower layer are those that the core makes
@@ -54,7 +54,7 @@ still_picked s P old new i commands devices picked = record {
   goes = ap (λ (t : Devices). goes_in t picked.row.device) devices ∙ picked.goes;
 }
 
-pub can_send : (s : HostSpec) (P : List Entry) (old new : Running) (i : ℕ) → Runs s P new → new.commands ≡ old.commands → new.devices ≡ old.devices
+pub can_send : (s : HostSpec) (P : List Entry) (old new : Running) (i : ℕ) → HostAgrees s P new → new.commands ≡ old.commands → new.devices ≡ old.devices
     → new.attempts.rows.items ≡ old.attempts.rows.items → MayBeSent s P old i → CanSend new i
 unfolding still_picked
 can_send s P old new i runs commands devices attempts may = record {
@@ -71,10 +71,10 @@ pub picked_id : (s : HostSpec) (P : List Entry) (r : Running) (i : ℕ) (picked 
 picked_id s P r i picked = ap (option_map (λ (q : CommandRow). q.id)) picked.row_at ∙ ap Some picked.id
 
 -- the search for a command of the spec finds it
-pub found : (s : HostSpec) (P : List Entry) (r : Running) → Runs s P r → (i : ℕ) (k : CmdSpec) → slice_get s.cmds i ≡ Some k → find_command s k.id.0 ≡ Some k
+pub found : (s : HostSpec) (P : List Entry) (r : Running) → HostAgrees s P r → (i : ℕ) (k : CmdSpec) → slice_get s.cmds i ≡ Some k → find_command s k.id.0 ≡ Some k
 found s P r runs i k at = find_one (λ j. j.id.0 == k.id.0) s.cmds runs.devices.ids i k at (λ m j get apart. apart) (eq-eqb k.id.0 k.id.0 refl)
 
-pub command_of : (s : HostSpec) (P : List Entry) (r : Running) → Runs s P r → (i : ℕ) (k : CmdSpec) → slice_get s.cmds i ≡ Some k → command s k.id.0 ≡ k
+pub command_of : (s : HostSpec) (P : List Entry) (r : Running) → HostAgrees s P r → (i : ℕ) (k : CmdSpec) → slice_get s.cmds i ≡ Some k → command s k.id.0 ≡ k
 command_of s P r runs i k at = ap or_no_command (found s P r runs i k at)
 
 -- the row of the command that was read has its id
@@ -86,11 +86,11 @@ pub number_is : (count : ℕ) (rows : List Row) (sent : Attempt) → count ≡ l
 number_is count rows sent counted is = is ∙ ap (λ (m : ℕ). record { 0 = m + 1 }) (sym counted)
 
 -- an attempt with the next number fits the call
-pub fits : (s : HostSpec) (P : List Entry) (r : Running) → Runs s P r → (i : ℕ) (k : CmdSpec) → slice_get s.cmds i ≡ Some k → (n now : ℕ) → n ≡ length r.attempts.rows.items + 1 → now ≡ r.ticks
+pub fits : (s : HostSpec) (P : List Entry) (r : Running) → HostAgrees s P r → (i : ℕ) (k : CmdSpec) → slice_get s.cmds i ≡ Some k → (n now : ℕ) → n ≡ length r.attempts.rows.items + 1 → now ≡ r.ticks
     → FitsQueue s P k.id k n now k.dev k.cdb k.fill
 fits s P r runs i k at n now number time = record {
   time = time ∙ sym runs.time;
-  fresh = (runs.attempts.rows n).0 ∙ ap (λ (x : Option Row). is_some x) (row_new r.attempts.rows.items n number);
+  fresh = (runs.attempts.0.rows n).0 ∙ ap (λ (x : Option Row). is_some x) (row_new r.attempts.rows.items n number);
   command = found s P r runs i k at;
   dev_is = refl;
   cdb_is = refl;

@@ -10,15 +10,16 @@ use Rattle.trace_model.specs.Attempts.{sends}
 use Rattle.trace_model.specs.Devices.{in_recovery, is_online}
 use Rattle.trace_model.specs.Names.{dev_of}
 use Rattle.trace_model.specs.Sending.{pick}
-use Rattle.trace_model.specs.Steps.{barred, most}
+use Rattle.mid_base.specs.Limits.{last_number}
+use Rattle.trace_model.specs.Steps.{barred}
 
 -- of a host that isn't in recovery, which picks c
 module _ (s : HostSpec) (due : Bool) (P : List Entry) (c : ℕ) (calm : in_recovery P ≡ false) (picked : pick s P ≡ Some c) where
   pub offline_goes : is_online s (dev_of s c) P ≡ false → barred s due P step.Send ≡ None
   offline_goes off = rw (calm, picked, off) refl
 
-  pub online_goes : is_online s (dev_of s c) P ≡ true → sends P + 1 < most → barred s due P step.Send ≡ None
-  online_goes on few = rw (calm, picked, on) (by (nat_le most (sends P + 1)) (leb_above most (sends P + 1) few))
+  pub online_goes : is_online s (dev_of s c) P ≡ true → sends P + 1 < last_number → barred s due P step.Send ≡ None
+  online_goes on few = rw (calm, picked, on) (by (nat_le last_number (sends P + 1)) (leb_above last_number (sends P + 1) few))
     where
       by : (b : Bool) → b ≡ false → cond b (Some Spent) None ≡ None
       by true is = cc
@@ -27,8 +28,8 @@ module _ (s : HostSpec) (due : Bool) (P : List Entry) (c : ℕ) (calm : in_recov
       leb_above : (a b : ℕ) → b < a → nat_le a b ≡ false
       leb_above a b lt = grind arith
 
-  pub spent : is_online s (dev_of s c) P ≡ true → most ≤ sends P + 1 → barred s due P step.Send ≡ Some Spent
-  spent on many = rw (calm, picked, on) (by (nat_le most (sends P + 1)) (le-leb most (sends P + 1) many))
+  pub spent : is_online s (dev_of s c) P ≡ true → last_number ≤ sends P + 1 → barred s due P step.Send ≡ Some Spent
+  spent on many = rw (calm, picked, on) (by (nat_le last_number (sends P + 1)) (le-leb last_number (sends P + 1) many))
     where
       by : (b : Bool) → b ≡ true → cond b (Some Spent) None ≡ Some Spent
       by true is = refl

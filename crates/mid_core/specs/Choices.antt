@@ -25,10 +25,10 @@ use Rattle.trace_model.specs.Attempts.{sends}
 use Rattle.trace_model.specs.Devices.{state, is_online, in_recovery}
 use Rattle.trace_model.specs.Sending.{is_least_free}
 use Rattle.trace_model.specs.Steps.{barred}
-use Rattle.command_table.specs.Follows.{IsNext}
+use Rattle.command_table.specs.CommandsAgree.{IsNext}
 use Rattle.host_state.specs.declared.running.Running.{Running}
 use Rattle.host_state.specs.Picks.{IsPicked}
-use Rattle.host_state.specs.Runs.{Runs}
+use Rattle.host_state.specs.HostAgrees.{HostAgrees}
 use Rattle.mid_core.specs.declared.choosing.Handing.{Handing}
 use Rattle.mid_core.specs.declared.choosing.Handing.TheVariants.{Take, Refuse}
 use Rattle.mid_core.specs.declared.choosing.Turn.{Turn}
@@ -37,7 +37,7 @@ use Rattle.mid_core.specs.declared.sending.Handed.{Handed}
 
 -- the running state is that of some journal of this host
 abbrev pub IsRunning : HostSpec → Running → Type 0
-IsRunning s r = (P : List Entry) × Runs s P r
+IsRunning s r = (P : List Entry) × HostAgrees s P r
 
 abbrev pub IsOfSome : Running → Type 0
 IsOfSome r = (s : HostSpec) × IsRunning s r
@@ -90,7 +90,7 @@ pub record IsHanded (s : HostSpec) (P : List Entry) (new : Running) (i : ℕ) (h
   pub id : h.id ≡ command.id
   pub number : h.attempt.0 ≡ sends P + 1
   pub least : is_least_free s P h.tag.0 ≡ true
-  pub runs : Runs s (handed h P) new
+  pub runs : HostAgrees s (handed h P) new
 
 abbrev pub StandsHanded : {A : Type 0} → (A → Standing) → HostSpec → Before → A → A → Handed → List Entry → Type 0
 StandsHanded stands s b old new h P = stands old s b P → stands new s b (handed h P)

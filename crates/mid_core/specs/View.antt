@@ -9,7 +9,7 @@ use Rattle.mid_base.specs.declared.steps.Step.TheVariants as step
 use Rattle.host_template.specs.Standing.{Before, Standing}
 use Rattle.trace_model.specs.Legal.{ByGroups}
 use Rattle.host_state.specs.declared.running.Running.{Running}
-use Rattle.host_state.specs.Runs.{Runs}
+use Rattle.host_state.specs.HostAgrees.{HostAgrees}
 
 -- the spec, the probes made before, the journal (the oldest entry first), the states of the tags, for how many more
 -- entries there is room, and the lower layer
@@ -25,7 +25,7 @@ pub record CoreView (A : Type 0) : Type 0 where
 pub record IsCore {A : Type 0} (stands : A → Standing) (spec : HostSpec) (before : Before) (lower : A) (P : List Entry) (running : Running) : Type 0 where
   pub legal : ByGroups spec P
   pub stood : stands lower spec before P
-  pub runs : Runs spec P running
+  pub runs : HostAgrees spec P running
 
 -- the steps that there are as yet
 abbrev pub IsBuilt : Step → Type 0

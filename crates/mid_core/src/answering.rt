@@ -3,7 +3,6 @@ ghost use Rattle.mid_base.specs.declared.answers.By.TheVariants.{Answer as ByAns
 ghost use Rattle.mid_base.specs.declared.steps.Step.TheVariants as steps;
 
 use crate::Core;
-use attempt_table::Phase;
 use host_template::HostTemplate;
 use mid_base::{Attempt, By, Did, Entry, NoMemory, Why};
 
@@ -36,15 +35,15 @@ impl<A: HostTemplate> Core<A> {
         let Some(row) = self.running.attempt(n) else {
             return Ok(Did::Skipped(Why::NotOpen));
         };
-        match row.phase {
-            Phase::Open => Ok(Did::Skipped(Why::NotReady)),
-            Phase::Answered(_) => {
-                self.book.reserve(1)?;
-                self.book.push(Entry::Owned(n, By::Answer));
-                self.running.own(n);
-                Ok(Did::Done)
-            }
-            _ => Ok(Did::Skipped(Why::NotOpen)),
+        if !row.out {
+            return Ok(Did::Skipped(Why::NotOpen));
         }
+        if !row.answered {
+            return Ok(Did::Skipped(Why::NotReady));
+        }
+        self.book.reserve(1)?;
+        self.book.push(Entry::Owned(n, By::Answer));
+        self.running.own(n);
+        Ok(Did::Done)
     }
 }

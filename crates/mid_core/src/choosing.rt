@@ -2,15 +2,12 @@ ghost use Rattle.std.specs.Prelude.{◌≡◌, List};
 ghost use Rattle.mid_base.specs.declared.entries.Entry.{Entry as EntrySeen};
 ghost use Rattle.mid_base.specs.declared.host_spec.HostSpec.{HostSpec as SpecSeen};
 ghost use Rattle.device_states.specs.States.{is_closed};
-ghost use Rattle.host_state.specs.Runs.{Runs};
+ghost use Rattle.host_state.specs.HostAgrees.{HostAgrees};
 ghost use Rattle.mid_core.specs.Choices.{IsOfSome, SaysHanding, SaysTurn};
 
 use device_states::online;
 use host_state::Running;
-use mid_base::{DeviceState, LaneNo, Why};
-
-// The last number of an attempt, which none gets.
-const LAST_ATTEMPT: u64 = (1 << 60) - 1;
+use mid_base::{DeviceState, LAST_NUMBER, LaneNo, Why};
 
 /// What comes of the command of a lane that is handed in next, by its place in the spec.
 #[derive(Clone, Copy, PartialEq, Eq, Debug)]
@@ -31,7 +28,7 @@ pub(crate) enum Turn {
 /// What Submit does, or the condition that bars it.
 pub(crate) fn next_handing(running: &Running, lane: LaneNo) -> Result<Handing, Why>
     requires { IsOfSome running.now }
-    ensures { (s : SpecSeen) (P : List EntrySeen) → Runs s P running.now → SaysHanding s P running.now lane result }
+    ensures { (s : SpecSeen) (P : List EntrySeen) → HostAgrees s P running.now → SaysHanding s P running.now lane result }
 {
     let Some(place) = running.next_in(lane) else {
         return Err(Why::LaneDone);
@@ -46,7 +43,7 @@ pub(crate) fn next_handing(running: &Running, lane: LaneNo) -> Result<Handing, W
 /// What Send does, or the first condition that bars it.
 pub(crate) fn next_turn(running: &Running) -> Result<Turn, Why>
     requires { IsOfSome running.now }
-    ensures { (s : SpecSeen) (P : List EntrySeen) → Runs s P running.now → SaysTurn s P running.now result }
+    ensures { (s : SpecSeen) (P : List EntrySeen) → HostAgrees s P running.now → SaysTurn s P running.now result }
 {
     if running.in_recovery() {
         return Err(Why::Recovery);
@@ -58,7 +55,7 @@ pub(crate) fn next_turn(running: &Running) -> Result<Turn, Why>
     if !online(running.device_state(row.device)) {
         return Ok(Turn::Report(place));
     }
-    if running.count() + 1 >= LAST_ATTEMPT {
+    if running.count() + 1 >= LAST_NUMBER {
         return Err(Why::Spent);
     }
     Ok(Turn::Send(place))

@@ -1,12 +1,10 @@
-ghost use Rattle.std.specs.Prelude.{◌≡◌, ◌<◌, List, ◌∷◌, Some, IfOk, OnOk, OnErr};
+ghost use Rattle.std.specs.Prelude.{◌≡◌, ◌<◌, List, ◌∷◌, IfOk, OnOk, OnErr};
 ghost use Rattle.mid_base.specs.declared.answers.Disp.TheVariants as disps;
 ghost use Rattle.mid_base.specs.declared.entries.Entry.{Entry as EntrySeen};
 ghost use Rattle.mid_base.specs.declared.entries.Entry.TheVariants as entries;
 ghost use Rattle.mid_base.specs.declared.host_spec.HostSpec.{HostSpec as SpecSeen};
-ghost use Rattle.attempt_table.specs.declared.rows.Phase.TheVariants as phases;
-ghost use Rattle.attempt_table.specs.Rows.{row_of};
 ghost use Rattle.trace_model.specs.Judging.{disp_of};
-ghost use Rattle.host_state.specs.Runs.{Runs, IsOwnedRow, HasRetries, IsFreed};
+ghost use Rattle.host_state.specs.HostAgrees.{HostAgrees, IsOwned, IsOwnedRow, HasRetries, IsFreed};
 ghost use Rattle.mid_core.specs.Choices.{IsRunning, follow_of};
 
 use attempt_table::Row;
@@ -18,9 +16,8 @@ use mid_base::{Answer, Attempt, Disp, Entry, HostSpec, NoMemory};
 /// The disposition of the answer that owns an attempt, for the attempt's command as it stands now.
 pub(crate) fn judge(spec: &HostSpec, running: &Running, n: Attempt, row: Row, a: &Answer) -> Disp
     requires runs { IsRunning spec.now running.now }
-    requires at { row_of n.0 running.now.attempts.rows.items ≡ Some row }
-    requires phase { row.phase ≡ phases.Owned a.now }
-    ensures disp { (P : List EntrySeen) → Runs spec.now P running.now → result ≡ disp_of spec.now P row.command.0 a.now }
+    requires owned { IsOwned running.now n row a.now }
+    ensures disp { (P : List EntrySeen) → HostAgrees spec.now P running.now → result ≡ disp_of spec.now P row.command.0 a.now }
     ensures few { result ≡ disps.Retry → HasRetries running.now row.place }
 {
     let command = spec.cmds.as_slice()[row.place];
@@ -45,9 +42,9 @@ pub(crate) fn settle_by(
     requires owned { IsOwnedRow running.old n row a }
     requires few { disposition ≡ disps.Retry → HasRetries running.old row.place }
     ensures entry { IfOk result (λ e. e ≡ follow_of row.command n a disposition) }
-    ensures runs { OnOk result ((s : SpecSeen) (P : List EntrySeen) → Runs s P running.old → Runs s (follow_of row.command n a disposition ∷ entries.Judged row.command n disposition ∷ P) running.new) }
+    ensures runs { OnOk result ((s : SpecSeen) (P : List EntrySeen) → HostAgrees s P running.old → HostAgrees s (follow_of row.command n a disposition ∷ entries.Judged row.command n disposition ∷ P) running.new) }
     ensures shown { OnOk result (IsFreed running.old.attempts.tags.items running.new.attempts.tags.items n row.tag) }
-    ensures same { OnErr result ((s : SpecSeen) (P : List EntrySeen) → Runs s P running.old → Runs s P running.new) }
+    ensures same { OnErr result ((s : SpecSeen) (P : List EntrySeen) → HostAgrees s P running.old → HostAgrees s P running.new) }
     ensures kept { OnErr result (running.new.attempts.tags.items ≡ running.old.attempts.tags.items) }
 {
     match disposition {

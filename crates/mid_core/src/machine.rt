@@ -4,7 +4,8 @@ ghost use Rattle.mid_base.specs.Limits.{KeepsLimits};
 ghost use Rattle.trace_model.specs.Devices.{state};
 ghost use Rattle.trace_model.specs.Drained.{Drained};
 ghost use Rattle.trace_model.specs.Legal.{Legal};
-ghost use Rattle.trace_model.specs.Steps.{tag_states, waiting_claims, IsNextLate};
+ghost use Rattle.trace_model.specs.Tags.{tag_states};
+ghost use Rattle.trace_model.specs.Claims.{waiting_claims, IsNextLate};
 
 use core_book::CoreBook;
 use host_state::Running;

@@ -2,7 +2,7 @@ ghost use Rattle.std.specs.Prelude.{◌≡◌, List, IfOk, OnErr};
 ghost use Rattle.mid_base.specs.declared.entries.Entry.{Entry as EntrySeen};
 ghost use Rattle.mid_base.specs.declared.steps.Step.TheVariants as steps;
 ghost use Rattle.host_template.specs.Standing.{Before, Unchanged};
-ghost use Rattle.host_state.specs.Runs.{Runs};
+ghost use Rattle.host_state.specs.HostAgrees.{HostAgrees};
 ghost use Rattle.mid_core.specs.Choices.{MayBeSent, IsHanded, ShowsHanded, StandsHanded, who_was_busy};
 
 use crate::Core;
@@ -63,11 +63,11 @@ fn hand_over<A: HostTemplate>(
     running: &mut Running,
     place: usize,
 ) -> Result<Handed, NoMemory>
-    requires { (P : List EntrySeen) × Runs spec.now P running.old × MayBeSent spec.now P running.old place }
-    ensures runs { IfOk result (λ h. (P : List EntrySeen) → Runs spec.now P running.old → MayBeSent spec.now P running.old place → IsHanded spec.now P running.new place h) }
-    ensures stands { IfOk result (λ h. (P : List EntrySeen) (b : Before) → Runs spec.now P running.old → MayBeSent spec.now P running.old place → StandsHanded A.stands spec.now b lower.old lower.new h P) }
+    requires { (P : List EntrySeen) × HostAgrees spec.now P running.old × MayBeSent spec.now P running.old place }
+    ensures runs { IfOk result (λ h. (P : List EntrySeen) → HostAgrees spec.now P running.old → MayBeSent spec.now P running.old place → IsHanded spec.now P running.new place h) }
+    ensures stands { IfOk result (λ h. (P : List EntrySeen) (b : Before) → HostAgrees spec.now P running.old → MayBeSent spec.now P running.old place → StandsHanded A.stands spec.now b lower.old lower.new h P) }
     ensures shown { IfOk result (λ h. ShowsHanded running.old.attempts.tags.items running.new.attempts.tags.items h) }
-    ensures same { OnErr result ((P : List EntrySeen) → Runs spec.now P running.old → Runs spec.now P running.new) }
+    ensures same { OnErr result ((P : List EntrySeen) → HostAgrees spec.now P running.old → HostAgrees spec.now P running.new) }
     ensures kept { OnErr result (running.new.attempts.tags.items ≡ running.old.attempts.tags.items) }
     ensures lower { OnErr result (Unchanged (A.stands lower.old) (A.stands lower.new) (A.is_due lower.old) (A.is_due lower.new)) }
 {

@@ -4,10 +4,7 @@ ghost use Rattle.mid_base.specs.declared.steps.Step.TheVariants as steps;
 use crate::Core;
 use device_states::set_device;
 use host_template::HostTemplate;
-use mid_base::{DevAddr, DeviceState, Did, Entry, NoMemory, Why};
-
-// The last tick that there is.
-const LAST_TICK: u64 = (1 << 60) - 1;
+use mid_base::{DevAddr, DeviceState, Did, Entry, LAST_NUMBER, NoMemory, Why};
 
 impl<A: HostTemplate> Core<A> {
     ghost use Rattle.mid_core.specs.Steps.{Answers};
@@ -26,7 +23,7 @@ impl<A: HostTemplate> Core<A> {
         if self.running.has_expired() {
             return Ok(Did::Skipped(Why::ExpiryWaiting));
         }
-        if now.0 >= LAST_TICK {
+        if now.0 >= LAST_NUMBER {
             return Ok(Did::Skipped(Why::Spent));
         }
         self.book.reserve(1)?;

@@ -6,6 +6,7 @@
 #![tactic(auto)]
 
 mod ends;
+mod gathering;
 mod memory;
 mod reading;
 mod standard;

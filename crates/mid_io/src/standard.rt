@@ -49,7 +49,7 @@ impl<R: Read + Drop> Source for StdSource<R> {
 /// A writer, such as standard output, as a sink. It tells what the writer tells of its bytes: of standard output nothing.
 #[derive(Drop)]
 pub struct StdSink<W: Write + Drop> {
-    inner: W,
+    pub(crate) inner: W,
     faults: u64,
 }
 

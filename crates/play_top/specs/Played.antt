@@ -6,7 +6,7 @@ use Rattle.mid_base.specs.declared.steps.Step.{Step}
 use Rattle.mid_base.specs.declared.steps.Why.{Why}
 use Rattle.mid_base.specs.declared.host_spec.HostSpec.{HostSpec}
 use Rattle.mid_base.specs.Past.{ticks}
-use Rattle.trace_model.specs.Headline.{Headline}
+use Rattle.journal_laws.specs.Headline.{Headline}
 use Rattle.trace_model.specs.Legal.{onto}
 use Rattle.trace_model.specs.Steps.{barred}
 use Rattle.adapter_tables.specs.Held.{held, is_due_held}

@@ -5,4 +5,5 @@ pub mod Joined
 pub mod Digits
 pub mod Parts
 pub mod Rows
+pub mod Firsts
 pub mod Written

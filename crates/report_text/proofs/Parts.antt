@@ -1,17 +1,20 @@
 -- The texts in parts.
-use Rattle.std.proofs.Common.{◌≡◌, ℕ, ◌+◌, ◌<◌, ◌≤◌, List, [], ◌∷◌, ◌++◌, length, take, drop, get_or, reverse, refl, sym, ap, ◌∙◌, append_assoc, arith}
+use Rattle.std.proofs.Common.{◌≡◌, ℕ, ◌+◌, ◌<◌, ◌≤◌, List, [], ◌∷◌, ◌++◌, length, take, drop, get_or, reverse, refl, sym, ap, ◌∙◌, append_assoc, arith, Option}
 use Rattle.std.specs.List.{flat_map}
 use Rattle.std.proofs.lemmas.List.{append-nil, take-append-drop, drop_more, reverse-append}
 use Rattle.std.proofs.lemmas.Grind.{flat_map-append}
 use Rattle.mid_base.specs.Past.{ticks}
 use Rattle.mid_base.specs.declared.entries.Entry.{Entry}
 use Rattle.mid_base.specs.declared.entries.Entry.TheVariants.{Tick}
-use Rattle.report_text.specs.Results.{result_line}
-use Rattle.report_text.specs.Tables.{SaysOf, gathered_line, tick_after}
+use Rattle.trace_model.specs.Commands.{retries}
+use Rattle.report_text.specs.Results.{result_line, result_text}
+use Rattle.report_text.specs.Tables.{SaysOf, gathered_line, report_in, row_at, row_of, tick_after}
 use Rattle.report_text.specs.Text.{entry_line, entry_lines}
 use Rattle.report_text.specs.declared.gather.Row.{Row}
 use Rattle.report_text.specs.declared.gather.Results.{Results}
+use Rattle.report_text.specs.declared.results.Report.{Report}
 use Rattle.report_text.proofs.Back.{back}
+use Rattle.report_text.proofs.Firsts.{report_is}
 
 -- what follows the lines of P, where Q comes after P
 later_lines : (Q P : List Entry) → (rest : List ℕ) × (entry_lines P ++ rest ≡ entry_lines (Q ++ P))
@@ -65,8 +68,14 @@ parts_before part xs i d tail lt =
     ap (λ (x : List ℕ). flat_map part (take i xs) ++ x) (sym (append_assoc here rest tail))
     ∙ (sym (append_assoc (flat_map part (take i xs)) (here ++ rest) tail) ∙ ap (λ (x : List ℕ). x ++ tail) (parts_at part xs i d lt))
 
+line_is : (r : Results) (es : List Entry) (c : ℕ) → row_at r.rows c ≡ row_of c (reverse es) → gathered_line es r c ≡ result_line (reverse es) c
+line_is r es c h =
+    ap (λ (row : Row). result_text c (report_in es row.told) row.retries) h
+    ∙ ap (λ (told : Option Report). result_text c told (retries c (reverse es))) (report_is c es)
+
 -- the result lines of the tables are those of the journal
-pub results_are : (r : Results) (P : List Entry) (ids : List ℕ) → SaysOf r P → flat_map (gathered_line r) ids ≡ flat_map (result_line P) ids
-results_are r P [] says = refl
-results_are r P (c ∷ ids) says =
-    rw (says.1 c, ap (λ (row : Row). row.retries) (says.0 c)) (ap (λ (x : List ℕ). result_line P c ++ x) (results_are r P ids says))
+pub results_are : (r : Results) (es : List Entry) (ids : List ℕ) → SaysOf r (reverse es) → flat_map (gathered_line es r) ids ≡ flat_map (result_line (reverse es)) ids
+results_are r es [] says = refl
+results_are r es (c ∷ ids) says =
+    ap (λ (x : List ℕ). x ++ flat_map (gathered_line es r) ids) (line_is r es c (says c))
+    ∙ ap (λ (x : List ℕ). result_line (reverse es) c ++ x) (results_are r es ids says)

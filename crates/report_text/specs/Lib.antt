@@ -5,5 +5,6 @@ pub mod Ends
 pub mod Order
 pub mod Results
 pub mod Text
+pub mod Numbered
 pub mod Tables
 pub mod Readings

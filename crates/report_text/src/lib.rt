@@ -41,6 +41,7 @@
 mod entries;
 mod gather;
 mod lines;
+mod numbered;
 mod pieces;
 mod readings;
 mod results;

@@ -21,6 +21,13 @@ pub struct Report {
     pub answer: Answer,
 }
 
+/// A command's first report: how it ended, and the place of the entry in the journal.
+#[derive(Clone, Copy)]
+pub struct FirstTold {
+    pub ended: Ended,
+    pub place: usize,
+}
+
 /// The last entry that names a command, as far as the command's end asks for it.
 #[derive(Clone, Copy, PartialEq, Eq, Debug)]
 pub enum LastOwn {

@@ -4,7 +4,7 @@ ghost use Rattle.report_text.specs.Ends.{WritesText};
 ghost use Rattle.report_text.specs.Tables.{gathered_line, tick_after};
 ghost use Rattle.report_text.specs.Text.{entry_lines, host_text, ids_of, skips_text};
 
-use crate::gather::Results;
+use crate::gather::{Results, report_in};
 use crate::lines::{WriteEnd, put, put_entry, put_host, put_result, put_skip};
 use mid_base::{CmdSpec, Entry, HostNo, Why};
 use mid_io::Sink;
@@ -53,19 +53,22 @@ fn write_entries<K: Sink>(out: &mut K, line: &mut String, entries: &[Entry]) -> 
     Ok(())
 }
 
-// Writes the result lines of these commands.
+// Writes the result lines of these commands, by the rows of the journal and its reports.
 fn write_results<K: Sink>(
     out: &mut K,
     line: &mut String,
     ids: &[u32],
+    entries: &[Entry],
     results: &Results,
 ) -> Result<(), WriteEnd>
-    ensures answer { WritesText (K.written out.old) (K.written out.new) (flat_map (gathered_line results.now) ids.now)
+    ensures answer { WritesText (K.written out.old) (K.written out.new) (flat_map (gathered_line entries.now results.now) ids.now)
         (K.faults out.old) (K.faults out.new) result }
     ensures later { K.faults out.old ≤ K.faults out.new }
 {
     for c in ids {
-        if let Err(end) = put_result(out, line, *c, results.report(*c), results.retries(*c)) {
+        let row = results.row(*c);
+        let report = report_in(entries, row.told);
+        if let Err(end) = put_result(out, line, *c, report, row.retries) {
             return Err(end);
         }
     }
@@ -88,7 +91,7 @@ pub fn write_host<K: Sink>(
         (K.faults out.old) (K.faults out.new) result }
     ensures later { K.faults out.old ≤ K.faults out.new }
 {
-    let Ok(results) = Results::gather(alloc, entries) else {
+    let Ok(results) = Results::gather(alloc, cmds, entries) else {
         return Err(WriteEnd::NoMemory);
     };
     let Ok(ids) = ids_in_order(alloc, cmds) else {
@@ -101,7 +104,7 @@ pub fn write_host<K: Sink>(
     if let Err(end) = write_entries(out, &mut line, entries) {
         return Err(end);
     }
-    write_results(out, &mut line, &ids, &results)
+    write_results(out, &mut line, &ids, entries, &results)
 }
 
 /// Writes the lines that follow the hosts: a `skipped` line for each step that was skipped, with the number of its line in

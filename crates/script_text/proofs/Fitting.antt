@@ -1,8 +1,9 @@
 -- What the words of a line without a fault are like, each at its place.
-use Rattle.std.proofs.Common.{◌≡◌, ℕ, ◌<◌, lit<, Bool, true, false, not, List, [], ◌∷◌, Option, Some, None, unwrap_or, refl, arith}
+use Rattle.std.proofs.Common.{◌≡◌, ℕ, ◌<◌, ◌≤◌, sym, subst, lit<, Bool, true, false, not, List, [], ◌∷◌, Option, Some, None, unwrap_or, refl, arith}
 use Rattle.std.proofs.lemmas.Bool.{leb-true, and_parts}
 use Rattle.std.specs.Prelude.{◌^◌, ◌-◌, nat_le, nat_lt, length, is_some}
-use Rattle.mid_base.specs.Limits.{is_between, is_address}
+use Rattle.mid_base.specs.Bytes.{cdb_list}
+use Rattle.mid_base.specs.Limits.{is_between, is_address, last_number}
 use Rattle.mid_base.specs.declared.host_spec.HostSpec.{HostSpec}
 use Rattle.script_words.specs.declared.kind.Kind.{Kind}
 use Rattle.script_words.specs.declared.kind.Kind.TheVariants as kinds
@@ -10,12 +11,14 @@ use Rattle.script_words.specs.declared.keywords.StepName.{StepName}
 use Rattle.script_words.specs.declared.keywords.StepName.TheVariants as names
 use Rattle.script_words.specs.Pieces.{number, value}
 use Rattle.script_words.specs.Words.{address, address_value}
+use Rattle.script_words.specs.Hex.{hex_bytes, bytes_value, cdb_of}
 use Rattle.script_words.specs.Keywords.{step_name}
-use Rattle.script_words.specs.Faults.{unless_true, form_and_range, number_fault, address_fault}
+use Rattle.script_words.specs.Faults.{unless_true, form_and_range, number_fault, address_fault, bytes_fault}
 use Rattle.script_text.specs.Said.{Said, passes, host_of, is_unit, is_lane, is_id}
 use Rattle.script_text.specs.Slots.{Slot, AnyStep, or_else, host_fault, new_host_fault, roomy_host_fault, new_unit_fault, unit_fault, new_command_fault, lane_fault, slot_fault, named, behind, end_fault, first_fault, step_slots}
 use Rattle.script_text.specs.Adds.{step_of, step_in}
 use Rattle.script_text.specs.Playable.{IsStepOn, IsStepOnSome}
+use Rattle.script_words.proofs.Packed.{cdb_read}
 use Rattle.script_text.proofs.Grown.{true_not}
 
 pub none_unless : (kind : Kind) (b : Bool) → unless_true kind b ≡ None → b ≡ true
@@ -93,12 +96,19 @@ pub lane_fits : (host : Option HostSpec) (word : List ℕ) → lane_fault host w
 lane_fits host word e =
     none_unless kinds.Unknown (is_lane host (value word)) (none_of_both (number_fault 0 63 word) (unless_true kinds.Unknown (is_lane host (value word))) e).1
 
+-- the block of a command has 1 to 16 bytes
+pub block_fits : (word : List ℕ) → bytes_fault 16 word ≡ None → is_between 1 16 (length (cdb_list (cdb_of (bytes_value word)))) ≡ true
+block_fits word e =
+    let within : is_between 1 16 (length (bytes_value word)) ≡ true = passed kinds.Hex (λ (b : List ℕ). is_between 1 16 (length b)) (hex_bytes word) [] e in
+    let few : length (bytes_value word) ≤ 16 = leb-true (length (bytes_value word)) 16 (and_parts (nat_le 1 (length (bytes_value word))) (nat_le (length (bytes_value word)) 16) within).1 in
+    subst (λ (b : List ℕ). is_between 1 16 (length b) ≡ true) (sym (cdb_read (bytes_value word) few)) within
+
 -- a step that is named without a fault
 below : (n m : ℕ) → nat_le n (m - 1) ≡ true → 0 < m → n < m
 below n m e some = omega (arith, leb-true n (m - 1) e)
 
-attempt_fits : (word : List ℕ) → number_fault 0 (2 ^ 60 - 1) word ≡ None → value word < 2 ^ 60
-attempt_fits word e = below (value word) (2 ^ 60) (number_below 0 (2 ^ 60 - 1) word e) (lit< tt)
+attempt_fits : (word : List ℕ) → number_fault 0 last_number word ≡ None → value word < 2 ^ 60
+attempt_fits word e = below (value word) (2 ^ 60) (number_below 0 last_number word e) (lit< tt)
 
 step_of_fits : (name : Option StepName) (said : Said) (h : HostSpec) (rest : List (List ℕ)) → unless_true kinds.Word (is_some name) ≡ None → Fits said (Some h) (step_slots name) rest → IsStepOn h (step_of name rest)
 step_of_fits None said h rest e f = absurd (cc)

@@ -6,7 +6,7 @@ use Rattle.std.specs.Ordering.{nat_cmp}
 use Rattle.std.specs.BTreeSet.{insert_key}
 use Rattle.std.proofs.lemmas.Bool.{cases_Bool, and_parts, le-leb}
 use Rattle.mid_base.specs.Address.{same_dev, has_dev}
-use Rattle.mid_base.specs.Limits.{is_between, is_lun, is_command, is_fault, is_planned, differ_in_address, differ_in_id, KeepsLimits}
+use Rattle.mid_base.specs.Limits.{is_between, is_lun, is_command, has_block, is_fault, is_planned, differ_in_address, differ_in_id, KeepsLimits}
 use Rattle.mid_base.specs.declared.faults.PlanEntry.{PlanEntry}
 use Rattle.mid_base.specs.declared.host_spec.LunSpec.{LunSpec}
 use Rattle.mid_base.specs.declared.host_spec.CmdSpec.{CmdSpec}
@@ -67,11 +67,12 @@ more_plans ids plans h k =
 -- what names a unit names one of more units too
 command_stays : (luns : List LunSpec) (l : LunSpec) (k : CmdSpec) → is_command luns k ≡ true → is_command (luns ++ l ∷ []) k ≡ true
 command_stays luns l k e =
-    let a = and_parts (has_dev luns k.dev && is_between 1 4294967295 k.id.0 && nat_le k.lane.0 63 && is_between 1 10000 k.timeout) (nat_le k.allowed 20) e in
+    let z = and_parts (has_dev luns k.dev && is_between 1 4294967295 k.id.0 && nat_le k.lane.0 63 && is_between 1 10000 k.timeout && nat_le k.allowed 20) (has_block k) e in
+    let a = and_parts (has_dev luns k.dev && is_between 1 4294967295 k.id.0 && nat_le k.lane.0 63 && is_between 1 10000 k.timeout) (nat_le k.allowed 20) z.0 in
     let b = and_parts (has_dev luns k.dev && is_between 1 4294967295 k.id.0 && nat_le k.lane.0 63) (is_between 1 10000 k.timeout) a.0 in
     let c = and_parts (has_dev luns k.dev && is_between 1 4294967295 k.id.0) (nat_le k.lane.0 63) b.0 in
     let d = and_parts (has_dev luns k.dev) (is_between 1 4294967295 k.id.0) c.0 in
-    rw (any_kept (λ m. same_dev m.dev k.dev) luns (l ∷ []) d.0, d.1, c.1, b.1, a.1) refl
+    rw (any_kept (λ m. same_dev m.dev k.dev) luns (l ∷ []) d.0, d.1, c.1, b.1, a.1, z.1) refl
 
 planned_stays : (luns : List LunSpec) (l : LunSpec) (e : PlanEntry) → is_planned luns e ≡ true → is_planned (luns ++ l ∷ []) e ≡ true
 planned_stays luns l p e =

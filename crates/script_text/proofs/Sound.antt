@@ -39,7 +39,7 @@ use Rattle.script_text.specs.Playable.{IsStepOf, differ_in_number, IsPlayable}
 use Rattle.script_text.proofs.Grown.{any_kept, numbers_more, true_not}
 use Rattle.script_text.proofs.Ids.{one_more_id}
 use Rattle.script_text.proofs.Kept.{HostKeeps, more_ids, more_plans, unit_keeps, planned_keeps, command_keeps, host_limits, Each, each_more, each_where, each_on, numbers_differ, none_named, Widens, step_stays, step_before}
-use Rattle.script_text.proofs.Fitting.{none_unless, none_of_both, Fits, fits, number_fits, number_below, new_host_fits, host_fits, roomy_fits, new_unit_fits, unit_fits, new_command_fits, step_fits}
+use Rattle.script_text.proofs.Fitting.{block_fits, none_unless, none_of_both, Fits, fits, number_fits, number_below, new_host_fits, host_fits, roomy_fits, new_unit_fits, unit_fits, new_command_fits, step_fits}
 
 abbrev StepsKeep : List HostSpec → List (ℕ × HostNo × Step) → Type 0
 StepsKeep hosts [] = Unit {0}
@@ -222,7 +222,7 @@ after_command said (a ∷ b ∷ c ∷ d ∷ g ∷ j ∷ m ∷ n ∷ rest) k room
           each_on (HostKeeps said.ids said.plans) (HostKeeps (insert_key nat_cmp said.ids (value a)) said.plans) (value b) (with_command c) (λ h keeps. more_ids said.ids said.plans (value a) h id.1 keeps) said.hosts
           (λ h e keeps.
           let own : has_dev h.luns (address_value d) ≡ true = rw e at unit in
-          let good : is_command h.luns c ≡ true = rw (own, id.0, number_below 0 63 _ f.1.1.0, number_fits 1 10000 g f.1.1.1.1.0, number_below 0 20 j f.1.1.1.1.1.0) refl in
+          let good : is_command h.luns c ≡ true = rw (own, id.0, number_below 0 63 _ f.1.1.0, number_fits 1 10000 g f.1.1.1.1.0, number_below 0 20 j f.1.1.1.1.1.0, block_fits n f.1.1.1.1.1.1.1.0) refl in
           command_keeps said.ids said.plans c h good id.1 keeps)
           k.each;
       numbers = numbers_differ (value b) (with_command c) said.hosts (λ h. refl) ∙ k.numbers;

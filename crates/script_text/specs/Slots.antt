@@ -1,6 +1,7 @@
 -- Which words may stand behind the first one of a line, and what is wrong with others.
 use Rattle.std.specs.Prelude.{ℕ, ◌^◌, ◌-◌, nat_lt, Bool, true, false, not, ◌||◌, if◌then◌else◌, List, [], ◌∷◌, length, Option, Some, None, is_some, codes}
 use Rattle.std.specs.Str.{bytes_eq}
+use Rattle.mid_base.specs.Limits.{last_number}
 use Rattle.mid_base.specs.declared.host_spec.HostSpec.{HostSpec}
 use Rattle.script_words.specs.declared.keywords.Keyword.{Keyword}
 use Rattle.script_words.specs.declared.keywords.Keyword.TheVariants as lines
@@ -67,8 +68,8 @@ some_fault_slots (Some kind) = fault_slots kind
 -- what stands behind the name of a step
 abbrev pub step_slots : Option StepName → List Slot
 step_slots (Some names.Submit) = KnownLane ∷ []
-step_slots (Some names.Own) = Number 0 (2 ^ 60 - 1) ∷ Exactly (codes "answer") ∷ []
-step_slots (Some names.Settle) = Number 0 (2 ^ 60 - 1) ∷ []
+step_slots (Some names.Own) = Number 0 last_number ∷ Exactly (codes "answer") ∷ []
+step_slots (Some names.Settle) = Number 0 last_number ∷ []
 step_slots (Some names.State) = KnownUnit ∷ AnyState ∷ []
 step_slots _ = []
 

@@ -5,11 +5,8 @@ ghost use Rattle.script_text.specs.Gives.{StepGives};
 use crate::ends::no_more;
 use crate::host_draft::HostDraft;
 use crate::names::{lane_in, unit_in};
-use mid_base::{Attempt, By, LaneNo, Step};
+use mid_base::{Attempt, By, LAST_NUMBER, LaneNo, Step};
 use script_words::{Kind, StepName, Words, exactly, number_in, state_in, step_name_in};
-
-// The numbers of attempts are below 2^60.
-const LAST_ATTEMPT: u128 = 1_152_921_504_606_846_975;
 
 /// The step of this host that these words name.
 pub fn step_in(host: &HostDraft, rest: Words) -> Result<Step, Kind>
@@ -31,13 +28,13 @@ pub fn step_in(host: &HostDraft, rest: Words) -> Result<Step, Kind>
             Ok(Step::Work)
         }
         StepName::Own => {
-            let attempt = number_in(words.next(), 0, LAST_ATTEMPT)?;
+            let attempt = number_in(words.next(), 0, u128::from(LAST_NUMBER))?;
             exactly(words.next(), b"answer")?;
             no_more(words.next())?;
             Ok(Step::Own(Attempt(attempt as u64), By::Answer))
         }
         StepName::Settle => {
-            let attempt = number_in(words.next(), 0, LAST_ATTEMPT)?;
+            let attempt = number_in(words.next(), 0, u128::from(LAST_NUMBER))?;
             no_more(words.next())?;
             Ok(Step::Settle(Attempt(attempt as u64)))
         }

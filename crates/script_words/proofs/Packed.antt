@@ -16,6 +16,10 @@ cdb_is b c e few =
     let all : take 16 b ≡ b = take_all 16 b few in
     same_cdb c (cdb_of b) (e ∙ sym (front_is (take 16 b) (drop (length (take 16 b)) (replicate 16 0)) ∙ all))
 
+pub cdb_read : (b : List ℕ) → length b ≤ 16 → cdb_list (cdb_of b) ≡ b
+unfolding cdb_of
+cdb_read b few = front_is (take 16 b) (drop (length (take 16 b)) (replicate 16 0)) ∙ take_all 16 b few
+
 pub sense_is : (b : List ℕ) (s : SenseBytes) → sense_list s ≡ b → length b ≤ 252 → s ≡ sense_of b
 unfolding sense_of
 sense_is b s e few =

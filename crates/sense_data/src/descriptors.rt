@@ -37,7 +37,7 @@ fn part_of(b: &[u8], from: usize, to: usize) -> &[u8]
 
 /// The descriptors that are left of sense data, each as its type and its body, which is a part of the bytes that were
 /// read (SPC-4, 4.5.2.1). A contract sees the list of them.
-#[derive(Debug, Drop)]
+#[derive(Clone, Debug, Drop)]
 pub struct Descriptors<'a> {
     bytes: &'a [u8],
     end: usize,

@@ -18,7 +18,10 @@ mod view;
 pub use builders::{build_descriptor, build_fixed};
 pub use descriptors::Descriptors;
 pub use faults::SenseFault;
-pub use laws::{descriptor_sense_reads_back, descriptors_fill_the_sense, fixed_sense_reads_back};
+pub use laws::{
+    additional_sense_codes_have_their_numbers, descriptor_sense_reads_back,
+    descriptors_fill_the_sense, fixed_sense_reads_back, sense_keys_have_their_numbers,
+};
 pub use senses::{
     ABORTED_COMMAND, ADDRESS_MARK_NOT_FOUND, BECOMING_READY, BLANK_CHECK,
     BLOCK_ADDRESS_OUT_OF_RANGE, COMPLETED, COPY_ABORTED, DATA_PROTECT, HARDWARE_ERROR,

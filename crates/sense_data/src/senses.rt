@@ -57,3 +57,59 @@ pub const UNRECOVERED_READ_ERROR: u8 = 0x11;
 pub const ADDRESS_MARK_NOT_FOUND: u8 = 0x13;
 
 pub const RECORDED_ENTITY_NOT_FOUND: u8 = 0x14;
+
+#[cfg(test)]
+mod tests {
+    use super::*;
+
+    #[test]
+    fn sense_keys_are_numbered_as_in_the_standard(rt: HostRuntime) {
+        let keys = [
+            NO_SENSE,
+            RECOVERED_ERROR,
+            NOT_READY,
+            MEDIUM_ERROR,
+            HARDWARE_ERROR,
+            ILLEGAL_REQUEST,
+            UNIT_ATTENTION,
+            DATA_PROTECT,
+            BLANK_CHECK,
+            VENDOR_SPECIFIC,
+            COPY_ABORTED,
+            ABORTED_COMMAND,
+            VOLUME_OVERFLOW,
+            MISCOMPARE,
+            COMPLETED,
+        ];
+        assert_eq!(rt; keys, [0, 1, 2, 3, 4, 5, 6, 7, 8, 9, 10, 11, 13, 14, 15]);
+    }
+
+    #[test]
+    fn additional_sense_codes_are_numbered_as_in_the_standard(rt: HostRuntime) {
+        let codes = [
+            NO_ADDITIONAL_SENSE,
+            BECOMING_READY,
+            INITIALIZING_COMMAND_REQUIRED,
+            INVALID_COMMAND_OPERATION_CODE,
+            BLOCK_ADDRESS_OUT_OF_RANGE,
+            INVALID_FIELD_IN_CDB,
+            WRITE_PROTECTED,
+            RESET_OCCURRED,
+        ]
+        .map(|code| u16::from(code.0) << 8 | u16::from(code.1));
+        assert_eq!(rt;
+            codes,
+            [0, 0x401, 0x402, 0x2000, 0x2100, 0x2400, 0x2700, 0x2900]
+        );
+    }
+
+    #[test]
+    fn errors_of_the_medium_are_numbered_as_in_the_standard(rt: HostRuntime) {
+        let codes = [
+            UNRECOVERED_READ_ERROR,
+            ADDRESS_MARK_NOT_FOUND,
+            RECORDED_ENTITY_NOT_FOUND,
+        ];
+        assert_eq!(rt; codes, [0x11, 0x13, 0x14]);
+    }
+}

@@ -308,3 +308,28 @@ fn built_senses_have_the_bytes_of_their_form(rt: HostRuntime) -> Result<(), Fail
     }
     Ok(())
 }
+
+#[test]
+fn faults_are_told_in_words(rt: HostRuntime) -> Result<(), Fail> {
+    let told = format!(in rt.alloc();
+        "{}; {}; {}; {}",
+        SenseFault::Empty,
+        SenseFault::Code(0x7f),
+        SenseFault::Short(3, 8),
+        SenseFault::DescriptorCut(8)
+    )?;
+    assert_eq!(rt;
+        told.as_str(),
+        "no sense data; response code 7fh is none of sense data; 3 bytes of sense data, 8 at least; the descriptor at byte 8 is cut"
+    );
+    Ok(())
+}
+
+#[test]
+fn a_clone_of_a_view_reads_the_same(rt: HostRuntime) -> Result<(), Fail> {
+    let sense = build_fixed(3, 0x11, 0, None, false);
+    let view = SenseView::read(sense.as_slice())?;
+    let clone = view.clone()?;
+    assert_eq!(rt; clone.key(), view.key());
+    Ok(())
+}

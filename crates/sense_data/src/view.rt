@@ -14,7 +14,7 @@ use std::marker::Model;
 /// Valid sense data in the caller's bytes, of the fixed or the descriptor form (SPC-4, 4.5).
 ///
 /// A contract sees the slice that was read.
-#[derive(Debug, Drop)]
+#[derive(Clone, Debug, Drop)]
 pub struct SenseView<'a> {
     bytes: &'a [u8],
     end: usize,

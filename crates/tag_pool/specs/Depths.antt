@@ -1,24 +1,9 @@
--- How many commands a device may have out at once: its depth, which the answers of the device change.
-use Rattle.std.specs.Prelude.{ℕ, ◌+◌, ◌-◌, ◌==◌, ◌≡◌, ◌≤◌, ◌<◌, Bool, if◌then◌else◌, min, max, List, Option, find, option_map, unwrap_or}
+-- The depths of a host's devices.
+use Rattle.std.specs.Prelude.{ℕ, ◌≡◌, ◌≤◌, ◌<◌, Bool, if◌then◌else◌, List, Option, find, option_map, unwrap_or}
 use Rattle.mid_base.specs.declared.names.DevAddr.{DevAddr}
 use Rattle.mid_base.specs.Address.{same_dev}
+use Rattle.mid_base.specs.Depths.{Depth, after_full, after_good}
 use Rattle.tag_pool.specs.declared.depths.DeviceDepth.{DeviceDepth}
-
--- a depth, and the GOODs that were counted since it last changed
-abbrev pub Depth : Type 0
-Depth = ℕ × ℕ
-
--- after TASK SET FULL, while `out` tags of the device are out: one fewer than those are, if that is less than the depth,
--- but at least one
-abbrev pub after_full : ℕ → Depth → Depth
-after_full out x =
-    let less = max 1 (min x.0 (out - 1)) in
-    if less == x.0 then x else (less, 0)
-
--- after GOOD, where the scripted depth is `most`: the fourth one since the depth last changed raises it by one
-abbrev pub after_good : ℕ → Depth → Depth
-after_good most x =
-    if x.0 == most then x else if x.1 == 3 then (x.0 + 1, 0) else (x.0, x.1 + 1)
 
 abbrev pub at_depth : Depth → DeviceDepth → DeviceDepth
 at_depth x device = record device { depth = x.0; goods = x.1 }

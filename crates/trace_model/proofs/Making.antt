@@ -7,7 +7,8 @@ use Rattle.mid_base.specs.declared.entries.Entry.{Entry}
 use Rattle.mid_base.specs.declared.entries.Entry.TheVariants.{Probe}
 use Rattle.mid_base.specs.declared.host_spec.HostSpec.{HostSpec}
 use Rattle.trace_model.specs.Course.{Course, Follows}
-use Rattle.trace_model.specs.Climb.{tests, is_doubtful, kept_if, test_unit_ready}
+use Rattle.mid_base.specs.Codes.{test_unit_ready}
+use Rattle.trace_model.specs.Climb.{tests, is_doubtful, kept_if}
 use Rattle.trace_model.specs.Legal.{onto, Group, ByGroups, Legal}
 
 -- what the code of one test says: the first answer, the second where the first is doubtful, and whether the device is kept
@@ -19,13 +20,13 @@ pub data AllTested : List DevAddr → List Entry → List DevAddr → Type 0 whe
   none : AllTested [] [] []
   more : (d : DevAddr) (ds : List DevAddr) (es fs : List Entry) (say : ProbeSay) (ready : List DevAddr) → Tested d es say → AllTested ds fs ready → AllTested (d ∷ ds) (es ++ fs) (kept_if say d ready)
 
-split_no : (b : Bool) (x y : Course) (es : List Entry) → b ≡ false → Follows y es → Follows (cond b x y) es
+pub split_no : (b : Bool) (x y : Course) (es : List Entry) → b ≡ false → Follows y es → Follows (cond b x y) es
 split_no b x y es q f = subst (λ c. Follows (cond c x y) es) (sym q) f
 
-split_yes : (b : Bool) (x y : Course) (es : List Entry) → b ≡ true → Follows x es → Follows (cond b x y) es
+pub split_yes : (b : Bool) (x y : Course) (es : List Entry) → b ≡ true → Follows x es → Follows (cond b x y) es
 split_yes b x y es q f = subst (λ c. Follows (cond c x y) es) (sym q) f
 
-one_test : (d : DevAddr) (ds : List DevAddr) (k : List DevAddr → Course) (es rest : List Entry) (say : ProbeSay) → Tested d es say
+pub one_test : (d : DevAddr) (ds : List DevAddr) (k : List DevAddr → Course) (es rest : List Entry) (say : ProbeSay) → Tested d es say
     → Follows (tests ds (λ ready. k (kept_if say d ready))) rest → Follows (tests (d ∷ ds) k) (es ++ rest)
 one_test d ds k es rest last (once say q) f = ((refl, refl, refl), split_no (is_doubtful say) _ _ rest q f)
 one_test d ds k es rest last (twice say again q) f = ((refl, refl, refl), split_yes (is_doubtful say) _ _ (Probe d test_unit_ready again ∷ rest) q ((refl, refl, refl), f))

@@ -27,7 +27,7 @@ use Rattle.trace_model.specs.Drained.{tellings}
 use Rattle.trace_model.proofs.Stage.{Stage, idle, out, owned, aborting, settled, failing, own, stage, unsettled, has_failure, Live, Failing, Fresh, IsDone, done_live, told_live, told_failing, owned_live}
 use Rattle.trace_model.proofs.Once.{Under, ToldOnce, Held, MayEnd, Fits, stands_fits, owed_of, and_left, and_right}
 
-abbrev number_of : Stage → ℕ
+abbrev pub number_of : Stage → ℕ
 number_of idle = 0
 number_of (out n) = n
 number_of (owned n) = n
@@ -35,7 +35,7 @@ number_of (aborting n) = n
 number_of (settled n) = n
 number_of (failing n) = n
 
-not_busy : (x : Standing) → (is_new x ≡ true) ⊎ (waits x ≡ true) → is_busy x ≡ true → ⊥
+pub not_busy : (x : Standing) → (is_new x ≡ true) ⊎ (waits x ≡ true) → is_busy x ≡ true → ⊥
 not_busy New h b = cc b
 not_busy Waits h b = cc b
 not_busy (Busy n t) (inl h) b = cc h
@@ -46,11 +46,11 @@ pub not_ended : (x : Standing) → (is_new x ≡ true) ⊎ (waits x ≡ true) �
 not_ended x (inl h) q = cc (subst (λ y. is_new y ≡ true) q h)
 not_ended x (inr h) q = cc (subst (λ y. waits y ≡ true) q h)
 
-rests : (c : ℕ) (P : List Entry) → (is_new (standing c P) ≡ true) ⊎ (waits (standing c P) ≡ true) → Under c P → stage c P ≡ idle
+pub rests : (c : ℕ) (P : List Entry) → (is_new (standing c P) ≡ true) ⊎ (waits (standing c P) ≡ true) → Under c P → stage c P ≡ idle
 rests c P h (inl e) = e
 rests c P h (inr b) = absurd (not_busy (standing c P) h b)
 
-busy_now : (c : ℕ) (P : List Entry) → (stage c P ≡ idle → ⊥) → Under c P → is_busy (standing c P) ≡ true
+pub busy_now : (c : ℕ) (P : List Entry) → (stage c P ≡ idle → ⊥) → Under c P → is_busy (standing c P) ≡ true
 busy_now c P h (inl e) = absurd (h e)
 busy_now c P h (inr b) = b
 
@@ -58,18 +58,18 @@ pub not_told : (c : ℕ) (P : List Entry) → ToldOnce c P → (standing c P ≡
 not_told c P (inl e) h = e
 not_told c P (inr e) h = absurd (h e.1)
 
-idle_live : (c : ℕ) (P : List Entry) (y : Stage) → stage c P ≡ idle → Live c P (stage c P) → Live c P y
+pub idle_live : (c : ℕ) (P : List Entry) (y : Stage) → stage c P ≡ idle → Live c P (stage c P) → Live c P y
 idle_live c P y e live = done_live c P (stage c P) y (subst IsDone (sym e) tt) live
 
-idle_failing : (c : ℕ) (P : List Entry) (y : Stage) → stage c P ≡ idle → Failing c P (stage c P) → Failing c P y
+pub idle_failing : (c : ℕ) (P : List Entry) (y : Stage) → stage c P ≡ idle → Failing c P (stage c P) → Failing c P y
 idle_failing c P y e fail n h = absurd (cc (sym e ∙ fail n h))
 
 -- an entry after which c's stage is idle, where it was before
-rest_told : (c : ℕ) (P : List Entry) (b : Bool) (y : Standing) → (b ≡ true → standing c P ≡ Ended → ⊥) → ToldOnce c P → (tellings c P ≡ 0) ⊎ ((tellings c P ≡ 1) × (cond b y (standing c P) ≡ Ended))
+pub rest_told : (c : ℕ) (P : List Entry) (b : Bool) (y : Standing) → (b ≡ true → standing c P ≡ Ended → ⊥) → ToldOnce c P → (tellings c P ≡ 0) ⊎ ((tellings c P ≡ 1) × (cond b y (standing c P) ≡ Ended))
 rest_told c P true y h told = inl (not_told c P told (h refl))
 rest_told c P false y h told = told
 
-took_held : (c : ℕ) (P : List Entry) (d : CmdId) → (d.0 ≡ c → is_new (standing c P) ≡ true) → Held c P → Held c (Took d ∷ P)
+pub took_held : (c : ℕ) (P : List Entry) (d : CmdId) → (d.0 ≡ c → is_new (standing c P) ≡ true) → Held c P → Held c (Took d ∷ P)
 took_held c P d new held = ⊎_elim
     (λ yes. let i = rests c P (inl (new yes.1)) held.2 in
     (rw yes.0 (idle_live c P idle i held.0), rw yes.0 (idle_failing c P idle i held.1), rw yes.0 (inl refl), held.3, rw yes.0 (inl (not_told c P held.4 (not_ended _ (inl (new yes.1)))))))
@@ -77,13 +77,13 @@ took_held c P d new held = ⊎_elim
     (eqb_tells d.0 c)
 
 -- Sent
-sent_fresh : (P : List Entry) (d : CmdId) (m : Attempt) (t : Tag) → m.0 ≡ sends P + 1 → Fresh P → Fresh (Sent d m t ∷ P)
+pub sent_fresh : (P : List Entry) (d : CmdId) (m : Attempt) (t : Tag) → m.0 ≡ sends P + 1 → Fresh P → Fresh (Sent d m t ∷ P)
 sent_fresh P d m t e fresh n lt = ⊎_elim
     (λ yes. absurd (omega (arith, lt, e, yes.1)))
     (λ no. rw no.0 (fresh n (omega (arith, lt))))
     (eqb_tells m.0 n)
 
-sent_live : (c : ℕ) (P : List Entry) (d : CmdId) (m : Attempt) (t : Tag) → (d.0 ≡ c → stage c P ≡ idle) → m.0 ≡ sends P + 1 → Fresh P → Live c P (stage c P) → Live c (Sent d m t ∷ P) (stage c (Sent d m t ∷ P))
+pub sent_live : (c : ℕ) (P : List Entry) (d : CmdId) (m : Attempt) (t : Tag) → (d.0 ≡ c → stage c P ≡ idle) → m.0 ≡ sends P + 1 → Fresh P → Live c P (stage c P) → Live c (Sent d m t ∷ P) (stage c (Sent d m t ∷ P))
 sent_live c P d m t i e fresh live n q = ⊎_elim
     (λ yes. let dc : d.0 ≡ c = rw yes.0 at q in let f = fresh n (omega (arith, e, yes.1)) in
     (λ h. rw (eq-eqb d.0 c dc) (ap out yes.1), λ h. absurd (cc (sym f.1 ∙ h)), λ h. absurd (cc (sym f.2 ∙ h))))
@@ -94,7 +94,7 @@ sent_live c P d m t i e fresh live n q = ⊎_elim
     (eqb_tells d.0 c))
     (eqb_tells m.0 n)
 
-sent_held : (c : ℕ) (P : List Entry) (d : CmdId) (m : Attempt) (t : Tag) → (d.0 ≡ c → waits (standing c P) ≡ true) → m.0 ≡ sends P + 1 → Held c P → Held c (Sent d m t ∷ P)
+pub sent_held : (c : ℕ) (P : List Entry) (d : CmdId) (m : Attempt) (t : Tag) → (d.0 ≡ c → waits (standing c P) ≡ true) → m.0 ≡ sends P + 1 → Held c P → Held c (Sent d m t ∷ P)
 sent_held c P d m t w e held =
     let live = sent_live c P d m t (λ q. rests c P (inr (w q)) held.2) e held.3 held.0 in
     let fresh = sent_fresh P d m t e held.3 in
@@ -112,7 +112,7 @@ bounced_stage c d m (Sent e n t ∷ P) h q =
     (rw same (ap out (eqb-true n.0 m (and_right (e.0 == d) _ h))), rw same refl)
 bounced_stage c d m (e ∷ P) h q = cc h
 
-bounced_live : (c : ℕ) (P : List Entry) (d : CmdId) (m : Attempt) (why : BusyOf) → (d.0 ≡ c → stage c P ≡ out m.0) → Live c P (stage c P) → Live c (Bounced d m why ∷ P) (stage c (Bounced d m why ∷ P))
+pub bounced_live : (c : ℕ) (P : List Entry) (d : CmdId) (m : Attempt) (why : BusyOf) → (d.0 ≡ c → stage c P ≡ out m.0) → Live c P (stage c P) → Live c (Bounced d m why ∷ P) (stage c (Bounced d m why ∷ P))
 bounced_live c P d m why o live n e = ⊎_elim
     (λ same. let x = live n e in let s = o same.1 in (
       λ h. ⊎_elim (λ yes. absurd (cc (rw yes.0 at h))) (λ no. absurd (no.1 (ap number_of (sym s ∙ x.0 (rw no.0 at h))))) (eqb_tells m.0 n),
@@ -126,14 +126,14 @@ bounced_live c P d m why o live n e = ⊎_elim
     ))
     (eqb_tells d.0 c)
 
-bounced_fresh : (P : List Entry) (d : CmdId) (m : Attempt) (why : BusyOf) → Fresh P → Fresh (Bounced d m why ∷ P)
+pub bounced_fresh : (P : List Entry) (d : CmdId) (m : Attempt) (why : BusyOf) → Fresh P → Fresh (Bounced d m why ∷ P)
 bounced_fresh P d m why fresh n lt = let f = fresh n lt in
     (⊎_elim (λ yes. rw yes.0 refl) (λ no. rw no.0 f.0) (eqb_tells m.0 n), f.1, f.2)
 
 pub busy_not_ended : (x : Standing) → is_busy x ≡ true → x ≡ Ended → ⊥
 busy_not_ended x b q = cc (subst (λ y. is_busy y ≡ true) q b)
 
-bounced_held : (c : ℕ) (P : List Entry) (d : CmdId) (m : Attempt) (why : BusyOf) → just_sent d.0 m.0 P ≡ true → Held c P → Held c (Bounced d m why ∷ P)
+pub bounced_held : (c : ℕ) (P : List Entry) (d : CmdId) (m : Attempt) (why : BusyOf) → just_sent d.0 m.0 P ≡ true → Held c P → Held c (Bounced d m why ∷ P)
 bounced_held c P d m why j held =
     let live = bounced_live c P d m why (λ q. (bounced_stage c d.0 m.0 P j q).0) held.0 in
     let fresh = bounced_fresh P d m why held.3 in
@@ -144,18 +144,18 @@ bounced_held c P d m why j held =
     (eqb_tells d.0 c)
 
 -- Owned
-owned_fresh : (P : List Entry) (m : Attempt) (by : By) → is_open m.0 P ≡ true → Fresh P → Fresh (Owned m by ∷ P)
+pub owned_fresh : (P : List Entry) (m : Attempt) (by : By) → is_open m.0 P ≡ true → Fresh P → Fresh (Owned m by ∷ P)
 owned_fresh P m by o fresh n lt = let f = fresh n lt in ⊎_elim
     (λ yes. absurd (cc (sym f.0 ∙ subst (λ k. is_open k P ≡ true) yes.1 o)))
     (λ no. (rw no.0 f.0, rw no.0 f.1, f.2))
     (eqb_tells m.0 n)
 
-owned_held : (c : ℕ) (P : List Entry) (m : Attempt) (by : By) → is_open m.0 P ≡ true → Held c P → Held c (Owned m by ∷ P)
+pub owned_held : (c : ℕ) (P : List Entry) (m : Attempt) (by : By) → is_open m.0 P ≡ true → Held c P → Held c (Owned m by ∷ P)
 owned_held c P m by o held =
     (owned_live c P m by o held.0, λ n h. ap (own m.0) (held.1 n h), ⊎_elim (λ i. inl (ap (own m.0) i)) (λ b. inr b) held.2, owned_fresh P m by o held.3, held.4)
 
 -- an entry that settles m
-less : (o a b : Bool) → o && not (cond a true b) ≡ true → (a ≡ false) × (o && not b ≡ true)
+pub less : (o a b : Bool) → o && not (cond a true b) ≡ true → (a ≡ false) × (o && not b ≡ true)
 less o true b h = absurd (cc (and_right o false h))
 less o false b h = (refl, h)
 
@@ -163,7 +163,7 @@ less o false b h = (refl, h)
 abbrev pub From : Stage → ℕ → Type 0
 From x m = (x ≡ owned m) ⊎ (x ≡ settled m)
 
-from_live : (c : ℕ) (P Q : List Entry) (m : ℕ) (y : Stage) → From (stage c P) m → Live c P (stage c P)
+pub from_live : (c : ℕ) (P Q : List Entry) (m : ℕ) (y : Stage) → From (stage c P) m → Live c P (stage c P)
     → ((n : ℕ) → sent_for n Q ≡ sent_for n P) → ((n : ℕ) → is_open n Q ≡ is_open n P) → ((n : ℕ) → unsettled n Q ≡ true → (m == n ≡ false) × (unsettled n P ≡ true)) → ((n : ℕ) → among n (aborts Q) ≡ true → (among n (aborts P) ≡ true) ⊎ (y ≡ aborting n)) → Live c Q y
 from_live c P Q m y (inl s) live f o u a n e = let x = live n (sym (f n) ∙ e) in (
   λ h. absurd (cc (sym s ∙ x.0 (sym (o n) ∙ h))),
@@ -177,7 +177,7 @@ from_live c P Q m y (inr s) live f o u a n e = let x = live n (sym (f n) ∙ e) 
 )
 
 -- Judged
-judged_live : (c : ℕ) (P : List Entry) (d : CmdId) (m : Attempt) (x : Disp) → (has_begun P ≡ true) ⊎ ((unsettled m.0 P ≡ true) × (sent_for m.0 P ≡ d.0)) → Live c P (stage c P) → Live c (Judged d m x ∷ P) (stage c (Judged d m x ∷ P))
+pub judged_live : (c : ℕ) (P : List Entry) (d : CmdId) (m : Attempt) (x : Disp) → (has_begun P ≡ true) ⊎ ((unsettled m.0 P ≡ true) × (sent_for m.0 P ≡ d.0)) → Live c P (stage c P) → Live c (Judged d m x ∷ P) (stage c (Judged d m x ∷ P))
 judged_live c P d m x fit live = ⊎_elim
     (λ yes. ⊎_elim
     (λ b. absurd (cc (subst (λ v. not v ≡ true) b (and_right (d.0 == c) _ yes))))
@@ -187,7 +187,7 @@ judged_live c P d m x fit live = ⊎_elim
     (λ no. rw no (λ n e. let w = live n e in (w.0, λ h. w.1 (less (is_some (owner n P)) (m.0 == n) (is_settled n P) h).1, w.2)))
     (cases_Bool ((d.0 == c) && not (has_begun P)))
 
-settles_fresh : (P Q : List Entry) (m : ℕ) → ((n : ℕ) → is_open n Q ≡ is_open n P) → ((n : ℕ) → unsettled n Q ≡ true → unsettled n P ≡ true) → ((n : ℕ) → sends P < n → among n (aborts Q) ≡ false) → sends Q ≡ sends P → Fresh P → Fresh Q
+pub settles_fresh : (P Q : List Entry) (m : ℕ) → ((n : ℕ) → is_open n Q ≡ is_open n P) → ((n : ℕ) → unsettled n Q ≡ true → unsettled n P ≡ true) → ((n : ℕ) → sends P < n → among n (aborts Q) ≡ false) → sends Q ≡ sends P → Fresh P → Fresh Q
 settles_fresh P Q m o u a q fresh n lt = let f = fresh n (omega (arith, lt, q)) in
     (o n ∙ f.0, no_more (unsettled n Q) (unsettled n P) (u n) f.1, a n (omega (arith, lt, q)))
   where
@@ -195,7 +195,7 @@ settles_fresh P Q m o u a q fresh n lt = let f = fresh n (omega (arith, lt, q)) 
     no_more true y f q = absurd (cc (sym q ∙ f refl))
     no_more false y f q = refl
 
-judged_held : (c : ℕ) (P : List Entry) (d : CmdId) (m : Attempt) (x : Disp) → (has_begun P ≡ true) ⊎ ((unsettled m.0 P ≡ true) × (sent_for m.0 P ≡ d.0)) → Held c P → Held c (Judged d m x ∷ P)
+pub judged_held : (c : ℕ) (P : List Entry) (d : CmdId) (m : Attempt) (x : Disp) → (has_begun P ≡ true) ⊎ ((unsettled m.0 P ≡ true) × (sent_for m.0 P ≡ d.0)) → Held c P → Held c (Judged d m x ∷ P)
 judged_held c P d m x fit held =
     let live = judged_live c P d m x fit held.0 in
     let fresh = settles_fresh P (Judged d m x ∷ P) m.0 (λ n. refl) (λ n h. (less (is_some (owner n P)) (m.0 == n) (is_settled n P) h).1) (λ n lt. (held.3 n lt).2) refl held.3 in
@@ -209,15 +209,15 @@ judged_held c P d m x fit held =
     (cases_Bool ((d.0 == c) && not (has_begun P)))
 
 -- AbortSet
-among_snoc : (n m : ℕ) (ms : List ℕ) → among n (ms ++ m ∷ []) ≡ true → (among n ms ≡ true) ⊎ (n ≡ m)
+pub among_snoc : (n m : ℕ) (ms : List ℕ) → among n (ms ++ m ∷ []) ≡ true → (among n ms ≡ true) ⊎ (n ≡ m)
 among_snoc n m [] h = ⊎_elim (λ yes. inr yes.1) (λ no. absurd (cc (rw no.0 at h))) (eqb_tells n m)
 among_snoc n m (k ∷ ms) h = ⊎_elim (λ yes. inl (rw yes.0 refl)) (λ no. ⊎_elim (λ w. inl (rw no.0 w)) (λ q. inr q) (among_snoc n m ms (rw no.0 at h))) (eqb_tells n k)
 
-false_of : (b : Bool) → (b ≡ true → ⊥) → b ≡ false
+pub false_of : (b : Bool) → (b ≡ true → ⊥) → b ≡ false
 false_of true h = absurd (h refl)
 false_of false h = refl
 
-abortset_live : (c : ℕ) (P : List Entry) (d : CmdId) (m : Attempt) → unsettled m.0 P ≡ true → sent_for m.0 P ≡ d.0 → Live c P (stage c P) → Live c (AbortSet d m ∷ P) (stage c (AbortSet d m ∷ P))
+pub abortset_live : (c : ℕ) (P : List Entry) (d : CmdId) (m : Attempt) → unsettled m.0 P ≡ true → sent_for m.0 P ≡ d.0 → Live c P (stage c P) → Live c (AbortSet d m ∷ P) (stage c (AbortSet d m ∷ P))
 abortset_live c P d m u e live = ⊎_elim
     (λ yes. let s = (live m.0 (e ∙ yes.1)).1 u in
     rw yes.0 (from_live c P (AbortSet d m ∷ P) m.0 (aborting m.0) (inl s) live (λ n. refl) (λ n. refl) (λ n h. less (is_some (owner n P)) (m.0 == n) (is_settled n P) h)
@@ -229,7 +229,7 @@ abortset_live c P d m u e live = ⊎_elim
     )))
     (eqb_tells d.0 c)
 
-abortset_held : (c : ℕ) (P : List Entry) (d : CmdId) (m : Attempt) → unsettled m.0 P ≡ true → sent_for m.0 P ≡ d.0 → Held c P → Held c (AbortSet d m ∷ P)
+pub abortset_held : (c : ℕ) (P : List Entry) (d : CmdId) (m : Attempt) → unsettled m.0 P ≡ true → sent_for m.0 P ≡ d.0 → Held c P → Held c (AbortSet d m ∷ P)
 abortset_held c P d m u e held =
     let live = abortset_live c P d m u e held.0 in
     let fresh = settles_fresh P (AbortSet d m ∷ P) m.0 (λ n. refl) (λ n h. (less (is_some (owner n P)) (m.0 == n) (is_settled n P) h).1)
@@ -241,7 +241,7 @@ abortset_held c P d m u e held =
     (eqb_tells d.0 c)
 
 -- Aborted
-among_filter : (n m : ℕ) (ms : List ℕ) → among n (filter (λ k. not (k == m)) ms) ≡ true → (among n ms ≡ true) × ((n ≡ m) → ⊥)
+pub among_filter : (n m : ℕ) (ms : List ℕ) → among n (filter (λ k. not (k == m)) ms) ≡ true → (among n ms ≡ true) × ((n ≡ m) → ⊥)
 among_filter n m [] h = cc h
 among_filter n m (k ∷ ms) h = ⊎_elim
     (λ yes. let w = among_filter n m ms (rw yes.0 at h) in (⊎_elim (λ a. rw a.0 refl) (λ b. rw b.0 w.0) (eqb_tells n k), w.1))
@@ -251,7 +251,7 @@ among_filter n m (k ∷ ms) h = ⊎_elim
     (eqb_tells n k))
     (eqb_tells k m)
 
-aborted_live : (c : ℕ) (P : List Entry) (d : CmdId) (m : Attempt) (ok : Bool) → among m.0 (aborts P) ≡ true → sent_for m.0 P ≡ d.0 → Live c P (stage c P) → Live c (Aborted d m ok ∷ P) (stage c (Aborted d m ok ∷ P))
+pub aborted_live : (c : ℕ) (P : List Entry) (d : CmdId) (m : Attempt) (ok : Bool) → among m.0 (aborts P) ≡ true → sent_for m.0 P ≡ d.0 → Live c P (stage c P) → Live c (Aborted d m ok ∷ P) (stage c (Aborted d m ok ∷ P))
 aborted_live c P d m ok a e live = ⊎_elim
     (λ yes. let s = (live m.0 (e ∙ yes.1)).2 a in
     λ n f. let w = live n f in (
@@ -262,7 +262,7 @@ aborted_live c P d m ok a e live = ⊎_elim
     (λ no. rw no.0 (λ n f. let w = live n f in (w.0, w.1, λ h. w.2 (among_filter n m.0 (aborts P) h).0)))
     (eqb_tells d.0 c)
 
-aborted_held : (c : ℕ) (P : List Entry) (d : CmdId) (m : Attempt) (ok : Bool) → among m.0 (aborts P) ≡ true → sent_for m.0 P ≡ d.0 → Held c P → Held c (Aborted d m ok ∷ P)
+pub aborted_held : (c : ℕ) (P : List Entry) (d : CmdId) (m : Attempt) (ok : Bool) → among m.0 (aborts P) ≡ true → sent_for m.0 P ≡ d.0 → Held c P → Held c (Aborted d m ok ∷ P)
 aborted_held c P d m ok a e held =
     let live = aborted_live c P d m ok a e held.0 in
     let fresh = settles_fresh P (Aborted d m ok ∷ P) m.0 (λ n. refl) (λ n h. h) (λ n lt. false_of _ (λ h. cc (sym (held.3 n lt).2 ∙ (among_filter n m.0 (aborts P) h).0))) refl held.3 in
@@ -273,22 +273,22 @@ aborted_held c P d m ok a e held =
     (eqb_tells d.0 c)
 
 -- Failed
-failure_snoc : (c n : ℕ) (fs : List Failure) (f : Failure) → has_failure c n (fs ++ f ∷ []) ≡ true → (has_failure c n fs ≡ true) ⊎ ((f.cmd.0 == c) && (f.attempt.0 == n) ≡ true)
+pub failure_snoc : (c n : ℕ) (fs : List Failure) (f : Failure) → has_failure c n (fs ++ f ∷ []) ≡ true → (has_failure c n fs ≡ true) ⊎ ((f.cmd.0 == c) && (f.attempt.0 == n) ≡ true)
 failure_snoc c n [] f h = ⊎_elim (λ yes. inr yes) (λ no. absurd (cc (rw no at h))) (cases_Bool ((f.cmd.0 == c) && (f.attempt.0 == n)))
 failure_snoc c n (g ∷ fs) f h = ⊎_elim
     (λ yes. inl (rw yes refl))
     (λ no. ⊎_elim (λ w. inl (rw no w)) (λ q. inr q) (failure_snoc c n fs f (rw no at h)))
     (cases_Bool ((g.cmd.0 == c) && (g.attempt.0 == n)))
 
-from_not_failing : (x : Stage) (m n : ℕ) → From x m → x ≡ failing n → ⊥
+pub from_not_failing : (x : Stage) (m n : ℕ) → From x m → x ≡ failing n → ⊥
 from_not_failing x m n (inl s) q = cc (sym s ∙ q)
 from_not_failing x m n (inr s) q = cc (sym s ∙ q)
 
-from_not_idle : (x : Stage) (m : ℕ) → From x m → x ≡ idle → ⊥
+pub from_not_idle : (x : Stage) (m : ℕ) → From x m → x ≡ idle → ⊥
 from_not_idle x m (inl s) q = cc (sym s ∙ q)
 from_not_idle x m (inr s) q = cc (sym s ∙ q)
 
-failed_held : (c : ℕ) (P : List Entry) (d : CmdId) (m : Attempt) (x : Bool) → (d.0 ≡ c → From (stage c P) m.0) → Held c P → Held c (Failed d m x ∷ P)
+pub failed_held : (c : ℕ) (P : List Entry) (d : CmdId) (m : Attempt) (x : Bool) → (d.0 ≡ c → From (stage c P) m.0) → Held c P → Held c (Failed d m x ∷ P)
 failed_held c P d m x from held =
     let fresh = settles_fresh P (Failed d m x ∷ P) m.0 (λ n. refl) (λ n h. (less (is_some (owner n P)) (m.0 == n) (is_settled n P) h).1) (λ n lt. (held.3 n lt).2) refl held.3 in
     ⊎_elim
@@ -309,7 +309,7 @@ failed_held c P d m x from held =
     (eqb_tells d.0 c)
 
 -- Again and Told
-again_held : (c : ℕ) (P : List Entry) (d : CmdId) (x : Bool) → (d.0 ≡ c → MayEnd c P) → Held c P → Held c (Again d x ∷ P)
+pub again_held : (c : ℕ) (P : List Entry) (d : CmdId) (x : Bool) → (d.0 ≡ c → MayEnd c P) → Held c P → Held c (Again d x ∷ P)
 again_held c P d x ends held =
     let live = told_live c P d time_out (λ q. (ends q).0) held.0 in
     let fail = told_failing c P d time_out held.1 in
@@ -318,7 +318,7 @@ again_held c P d x ends held =
     (λ no. (live, fail, rw no.0 held.2, held.3, rw no.0 held.4))
     (eqb_tells d.0 c)
 
-told_held : (c : ℕ) (P : List Entry) (d : CmdId) (a : Answer) → (d.0 ≡ c → MayEnd c P) → Held c P → Held c (Told d a ∷ P)
+pub told_held : (c : ℕ) (P : List Entry) (d : CmdId) (a : Answer) → (d.0 ≡ c → MayEnd c P) → Held c P → Held c (Told d a ∷ P)
 told_held c P d a ends held =
     let live = told_live c P d a (λ q. (ends q).0) held.0 in
     let fail = told_failing c P d a held.1 in
@@ -328,7 +328,7 @@ told_held c P d a ends held =
     (λ no. (live, fail, rw no.0 held.2, held.3, rw no.0 held.4))
     (eqb_tells d.0 c)
 
-held_step : (c : ℕ) (P : List Entry) (e : Entry) → Fits c P e → Held c P → Held c (e ∷ P)
+pub held_step : (c : ℕ) (P : List Entry) (e : Entry) → Fits c P e → Held c P → Held c (e ∷ P)
 held_step c P (Took d) f held = took_held c P d f held
 held_step c P (Sent d m t) f held = sent_held c P d m t f.0 f.1 held
 held_step c P (Bounced d m why) f held = bounced_held c P d m why f held
@@ -347,7 +347,7 @@ held_all s c (e ∷ P) each =
     let held = held_all s c P each.1 in
     held_step c P e (stands_fits s c P (owed s P) e (owed_of s c P each.1) each.0 held) held
 
-at_most_one : (c : ℕ) (P : List Entry) → ToldOnce c P → tellings c P ≤ 1
+pub at_most_one : (c : ℕ) (P : List Entry) → ToldOnce c P → tellings c P ≤ 1
 at_most_one c P (inl e) = omega (arith, e)
 at_most_one c P (inr e) = omega (arith, e.0)
 

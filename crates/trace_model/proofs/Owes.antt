@@ -18,7 +18,8 @@ use Rattle.trace_model.specs.Attempts.{answer}
 use Rattle.trace_model.specs.Judging.{may_retry}
 use Rattle.trace_model.specs.Recovery.{todo, listed}
 use Rattle.disposition.specs.declared.todo.Todo.{Todo}
-use Rattle.disposition.specs.Ladder.{Level, fetch_sense, abort, start_unit, reset_device, reset_target, reset_bus, reset_host, give_up, no_level, level_of, is_in_scope, devs}
+use Rattle.mid_base.specs.Levels.{Level, fetch_sense, abort, start_unit, reset_device, reset_target, reset_bus, reset_host, give_up, not_online, no_level, level_of}
+use Rattle.disposition.specs.Ladder.{is_in_scope, devs}
 use Rattle.trace_model.specs.Course.{Course, over, next, ask, fetch, Meets, after}
 use Rattle.trace_model.specs.Climb.{tests, clear, test_and_clear, on_one_of, is_doubtful, kept_if, judge_again, fetch_for, start_for, offline_for, act_on}
 use Rattle.trace_model.specs.Rules.{Allowed, course, judged, is_lost}
@@ -68,15 +69,15 @@ Calm e = is_calm e ≡ true
 abbrev pub End : Entry → Type 0
 End e = is_end e ≡ true
 
-either : (Q : Entry → Type 0) (b : Bool) (x y : Course) → Owes Q x → Owes Q y → Owes Q (cond b x y)
+pub either : (Q : Entry → Type 0) (b : Bool) (x y : Course) → Owes Q x → Owes Q y → Owes Q (cond b x y)
 either Q true x y h k = h
 either Q false x y h k = k
 
-clear_calm : (level : ℕ) (xs : List Todo) → Owes Calm (clear level xs)
+pub clear_calm : (level : ℕ) (xs : List Todo) → Owes Calm (clear level xs)
 clear_calm level [] = tt
 clear_calm level (x ∷ xs) = (refl, clear_calm level xs)
 
-tests_calm : (ds : List DevAddr) (k : List DevAddr → Course) → ((r : List DevAddr) → Owes Calm (k r)) → Owes Calm (tests ds k)
+pub tests_calm : (ds : List DevAddr) (k : List DevAddr → Course) → ((r : List DevAddr) → Owes Calm (k r)) → Owes Calm (tests ds k)
 tests_calm [] k h = h []
 tests_calm (d ∷ ds) k h = (
   λ say. refl,
@@ -85,33 +86,34 @@ tests_calm (d ∷ ds) k h = (
       (tests_calm ds (λ ready. k (kept_if say d ready)) (λ r. h (kept_if say d r))),
 )
 
-test_calm : (level : ℕ) (xs : List Todo) → Owes Calm (test_and_clear level xs)
+pub test_calm : (level : ℕ) (xs : List Todo) → Owes Calm (test_and_clear level xs)
 test_calm level xs = tests_calm (devs xs) _ (λ ready. clear_calm level (filter (on_one_of ready) xs))
 
-again_calm : (x : Todo) (d : Disp) → Owes Calm (judge_again x d)
+pub again_calm : (x : Todo) (d : Disp) → Owes Calm (judge_again x d)
 again_calm x Success = (refl, (refl, tt))
 again_calm x Retry = (refl, (refl, tt))
 again_calm x Requeue = (refl, tt)
 again_calm x Fail = (refl, tt)
 
-fetch_calm : (ok : Bool) (xs : List Todo) → Owes Calm (fetch_for ok xs)
+pub fetch_calm : (ok : Bool) (xs : List Todo) → Owes Calm (fetch_for ok xs)
 fetch_calm ok [] = tt
 fetch_calm false (x ∷ xs) = (λ say. refl, λ say. tt)
 fetch_calm true (x ∷ xs) = (λ say. refl, λ say. (λ sense. refl, λ sense. again_calm x _))
 
-start_calm : (ok : Bool) (xs : List Todo) → Owes Calm (start_for ok xs)
+pub start_calm : (ok : Bool) (xs : List Todo) → Owes Calm (start_for ok xs)
 start_calm ok [] = tt
 start_calm false (x ∷ xs) = (λ say. refl, λ say. tt)
 start_calm true (x ∷ xs) = (λ say. refl, λ say. test_calm 3 (x ∷ xs))
 
-offline_calm : (xs : List Todo) → Owes Calm (offline_for xs)
+pub offline_calm : (xs : List Todo) → Owes Calm (offline_for xs)
 offline_calm [] = tt
 offline_calm (x ∷ xs) = (refl, clear_calm 8 (x ∷ xs))
 
-act_calm : (at : Level) (level : ℕ) (ok : Bool) (xs : List Todo) → Owes Calm (act_on at level ok xs)
+pub act_calm : (at : Level) (level : ℕ) (ok : Bool) (xs : List Todo) → Owes Calm (act_on at level ok xs)
 act_calm fetch_sense level ok xs = fetch_calm ok xs
 act_calm start_unit level ok xs = start_calm ok xs
 act_calm give_up level ok xs = offline_calm xs
+act_calm not_online level ok xs = tt
 act_calm no_level level ok xs = tt
 act_calm abort level true xs = test_calm level xs
 act_calm reset_device level true xs = test_calm level xs
@@ -130,7 +132,7 @@ climb_calm s P level scope ok = act_calm (level_of level) level ok (filter (is_i
 pub begin_calm : (s : HostSpec) (P : List Entry) → Owes Calm (course s P EhBegin)
 begin_calm s P = clear_calm 0 (filter (is_lost s P) (listed s P))
 
-judged_end : (c : CmdId) (n : Attempt) (d : Disp) (a : Option Answer) → Owes End (judged c n d a)
+pub judged_end : (c : CmdId) (n : Attempt) (d : Disp) (a : Option Answer) → Owes End (judged c n d a)
 judged_end c n Success (Some a) = (refl, tt)
 judged_end c n Success None = tt
 judged_end c n Retry a = (refl, tt)
@@ -140,7 +142,7 @@ judged_end c n Fail a = (refl, tt)
 pub judged_ends : (s : HostSpec) (P : List Entry) (c : CmdId) (n : Attempt) (d : Disp) → Owes End (course s P (Judged c n d))
 judged_ends s P c n d = judged_end c n d (answer n.0 P)
 
-end_either : (b : Bool) (c : CmdId) → End (cond b (Again c true) (Told c time_out))
+pub end_either : (b : Bool) (c : CmdId) → End (cond b (Again c true) (Told c time_out))
 end_either true c = refl
 end_either false c = refl
 
@@ -159,11 +161,11 @@ course_owing s P EhBegin = inl (begin_calm s P)
 course_owing s P (Act level scope ok) = inl (climb_calm s P level scope ok)
 course_owing s P e = inl tt
 
-after_owing : (k : Course) (e : Entry) → Owing k → Owing (after k e)
+pub after_owing : (k : Course) (e : Entry) → Owing k → Owing (after k e)
 after_owing k e (inl h) = inl (after_owes Calm k e h)
 after_owing k e (inr h) = inr (after_owes End k e h)
 
-goes_owing : (k : Course) (s : HostSpec) (P : List Entry) (e : Entry) → Owing k → Owing (goes_on k s P e)
+pub goes_owing : (k : Course) (s : HostSpec) (P : List Entry) (e : Entry) → Owing k → Owing (goes_on k s P e)
 goes_owing over s P e h = course_owing s P e
 goes_owing (next x k) s P e h = after_owing (next x k) e h
 goes_owing (ask d code want k) s P e h = after_owing (ask d code want k) e h
@@ -176,11 +178,11 @@ owed_owing s (e ∷ P) = goes_owing (owed s P) s P e (owed_owing s P)
 abbrev pub Follower : Entry → Type 0
 Follower e = Calm e ⊎ End e
 
-meets_follower : (k : Course) (e : Entry) → Owing k → Meets k e → Follower e
+pub meets_follower : (k : Course) (e : Entry) → Owing k → Meets k e → Follower e
 meets_follower k e (inl h) m = inl (meets_owes Calm k e h m)
 meets_follower k e (inr h) m = inr (meets_owes End k e h m)
 
-stands_by : (k : Course) (s : HostSpec) (P : List Entry) (e : Entry) → Owing k → Stands k s P e → Allowed s P e ⊎ Follower e
+pub stands_by : (k : Course) (s : HostSpec) (P : List Entry) (e : Entry) → Owing k → Stands k s P e → Allowed s P e ⊎ Follower e
 stands_by over s P e h st = inl st
 stands_by (next x k) s P e h st = inr (meets_follower (next x k) e h st)
 stands_by (ask d code want k) s P e h st = inr (meets_follower (ask d code want k) e h st)

@@ -16,12 +16,12 @@ use Rattle.trace_model.specs.Sending.{may_send, pick, is_number, is_least_free}
 use Rattle.trace_model.specs.Legal.{EachStands, ByPlaces}
 use Rattle.trace_model.proofs.Owes.{stands}
 
-record Once (n : ℕ) (P : List Entry) : Type 0 where
+pub record Once (n : ℕ) (P : List Entry) : Type 0 where
   one : owners n P ≤ 1
   open_known : is_open n P ≡ true → (n ≤ sends P) × (owners n P ≡ 0)
   owned_known : 0 < owners n P → n ≤ sends P
 
-and_left : (a b : Bool) → a && b ≡ true → a ≡ true
+pub and_left : (a b : Bool) → a && b ≡ true → a ≡ true
 and_left true b h = refl
 and_left false b h = h
 
@@ -30,18 +30,18 @@ owns_open n ByAnswer P h = and_left _ _ h
 owns_open n ByExpiry P h = and_left _ _ h
 
 -- an entry that opens and owns nothing
-same : (n : ℕ) (P Q : List Entry) → owners n Q ≡ owners n P → is_open n Q ≡ is_open n P → sends Q ≡ sends P → Once n P → Once n Q
+pub same : (n : ℕ) (P Q : List Entry) → owners n Q ≡ owners n P → is_open n Q ≡ is_open n P → sends Q ≡ sends P → Once n P → Once n Q
 same n P Q e f k h = record {
   one = omega (arith, e, h.one);
   open_known = λ o. let x = h.open_known (sym f ∙ o) in (omega (arith, k, x.0), e ∙ x.1);
   owned_known = λ o. omega (arith, k, h.owned_known (omega (arith, e, o)));
 }
 
-none_yet : (k n m : ℕ) → (0 < k → n ≤ m) → n ≡ m + 1 → k ≡ 0
+pub none_yet : (k n m : ℕ) → (0 < k → n ≤ m) → n ≡ m + 1 → k ≡ 0
 none_yet zero n m h e = refl
 none_yet (suc k) n m h e = absurd (omega (arith, h (omega arith), e))
 
-sent_number : (s : HostSpec) (P : List Entry) (c n t : ℕ) → may_send s P c n t ≡ true → n ≡ sends P + 1
+pub sent_number : (s : HostSpec) (P : List Entry) (c n t : ℕ) → may_send s P c n t ≡ true → n ≡ sends P + 1
 sent_number s P c n t h = eqb-true n (sends P + 1) (fourth (not (in_recovery P)) (is_number c (pick s P)) (is_online s (dev_of s c) P) (n == sends P + 1) (is_least_free s P t) h)
   where
     fourth : (a b c d e : Bool) → a && b && c && d && e ≡ true → d ≡ true
@@ -50,7 +50,7 @@ sent_number s P c n t h = eqb-true n (sends P + 1) (fourth (not (in_recovery P))
     fourth true false c d e h = cc h
     fourth true true false d e h = cc h
 
-once : (s : HostSpec) (P : List Entry) (n : ℕ) → EachStands s P → Once n P
+pub once : (s : HostSpec) (P : List Entry) (n : ℕ) → EachStands s P → Once n P
 once s [] n each = record { one = omega arith; open_known = λ o. absurd (cc o); owned_known = λ o. absurd (omega (arith, o)) }
 once s (Sent c m t ∷ P) n each =
     let h = once s P n each.1 in
@@ -96,7 +96,7 @@ pub one_owner : (s : HostSpec) (P : List Entry) (n : ℕ) → ByPlaces s P → o
 one_owner s P n legal = (once s P n legal.each).one
 
 -- an attempt that is open has no owner
-unowned : (n : ℕ) (P : List Entry) → owners n P ≡ 0 → owner n P ≡ None
+pub unowned : (n : ℕ) (P : List Entry) → owners n P ≡ 0 → owner n P ≡ None
 unowned n [] h = refl
 unowned n (Owned m by ∷ P) h = ⊎_elim (λ yes. absurd (omega (arith, rw yes.0 at h))) (λ no. rw no.0 (unowned n P (rw no.0 at h))) (eqb_tells m.0 n)
 unowned n (e ∷ P) h = unowned n P h

@@ -11,7 +11,7 @@ use Rattle.trace_model.proofs.Owes.{Calm, End, meets_owes}
 use Rattle.trace_model.proofs.Quiet.{owed_quiet}
 use Rattle.trace_model.proofs.Backed.{Backed, owed_backed}
 
-calm_permitted : (s : HostSpec) (P : List Entry) (e : Entry) → Calm e → Backed (λ n. owner n P) e → IsWithin s P → Permits s P e
+pub calm_permitted : (s : HostSpec) (P : List Entry) (e : Entry) → Calm e → Backed (λ n. owner n P) e → IsWithin s P → Permits s P e
 calm_permitted s P (Judged c n d) m b h = b
 calm_permitted s P (Cleared c level) m b h = h
 calm_permitted s P (Sensed c n x) m b h = h
@@ -19,7 +19,7 @@ calm_permitted s P (Probe d code say) m b h = h
 calm_permitted s P (Offline d) m b h = h
 calm_permitted s P e m b h = cc m
 
-end_permitted : (s : HostSpec) (P : List Entry) (e : Entry) → End e → Permits s P e
+pub end_permitted : (s : HostSpec) (P : List Entry) (e : Entry) → End e → Permits s P e
 end_permitted s P (Failed c n x) m = tt
 end_permitted s P (Again c x) m = tt
 end_permitted s P (Told c a) m = tt

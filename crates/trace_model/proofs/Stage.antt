@@ -65,7 +65,7 @@ IsDone (settled n) = Unit {0}
 IsDone (failing n) = Unit {0}
 IsDone x = ⊥
 
-not_out : (x : Stage) (n : ℕ) → IsDone x → x ≡ out n → ⊥
+pub not_out : (x : Stage) (n : ℕ) → IsDone x → x ≡ out n → ⊥
 not_out idle n d e = cc e
 not_out (settled m) n d e = cc e
 not_out (failing m) n d e = cc e
@@ -73,7 +73,7 @@ not_out (out m) n d e = d
 not_out (owned m) n d e = d
 not_out (aborting m) n d e = d
 
-not_owned : (x : Stage) (n : ℕ) → IsDone x → x ≡ owned n → ⊥
+pub not_owned : (x : Stage) (n : ℕ) → IsDone x → x ≡ owned n → ⊥
 not_owned idle n d e = cc e
 not_owned (settled m) n d e = cc e
 not_owned (failing m) n d e = cc e
@@ -81,7 +81,7 @@ not_owned (out m) n d e = d
 not_owned (owned m) n d e = d
 not_owned (aborting m) n d e = d
 
-not_aborting : (x : Stage) (n : ℕ) → IsDone x → x ≡ aborting n → ⊥
+pub not_aborting : (x : Stage) (n : ℕ) → IsDone x → x ≡ aborting n → ⊥
 not_aborting idle n d e = cc e
 not_aborting (settled m) n d e = cc e
 not_aborting (failing m) n d e = cc e
@@ -95,7 +95,7 @@ done_live c P x y d live n e =
     (λ o. absurd (not_out x n d ((live n e).0 o)), λ o. absurd (not_owned x n d ((live n e).1 o)), λ o. absurd (not_aborting x n d ((live n e).2 o)))
 
 -- Again and Told end c
-filter_other : (c d n : ℕ) (fs : List Failure) → (d == c) ≡ false → has_failure c n (filter (λ f. not (f.cmd.0 == d)) fs) ≡ true → has_failure c n fs ≡ true
+pub filter_other : (c d n : ℕ) (fs : List Failure) → (d == c) ≡ false → has_failure c n (filter (λ f. not (f.cmd.0 == d)) fs) ≡ true → has_failure c n fs ≡ true
 filter_other c d n [] ne h = h
 filter_other c d n (f ∷ fs) ne h = ⊎_elim
     (λ yes. or_right _ _ (filter_other c d n fs ne (rw yes.0 at h)))
@@ -110,7 +110,7 @@ filter_other c d n (f ∷ fs) ne h = ⊎_elim
     or_either true x y f h = refl
     or_either false x y f h = f h
 
-filter_none : (c n : ℕ) (fs : List Failure) → has_failure c n (filter (λ f. not (f.cmd.0 == c)) fs) ≡ true → ⊥
+pub filter_none : (c n : ℕ) (fs : List Failure) → has_failure c n (filter (λ f. not (f.cmd.0 == c)) fs) ≡ true → ⊥
 filter_none c n [] h = cc h
 filter_none c n (f ∷ fs) h = ⊎_elim
     (λ yes. filter_none c n fs (rw yes.0 at h))

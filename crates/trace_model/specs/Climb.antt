@@ -10,21 +10,14 @@ use Rattle.mid_base.specs.declared.answers.ProbeSay.TheVariants.{Answered, Silen
 use Rattle.mid_base.specs.declared.answers.Scope.{Scope}
 use Rattle.mid_base.specs.declared.entries.Entry.TheVariants.{Judged, Cleared, Offline}
 use Rattle.mid_base.specs.Address.{same_dev}
+use Rattle.mid_base.specs.Codes.{test_unit_ready, request_sense, start_stop_unit}
 use Rattle.mid_base.specs.Answers.{said_good, is_good, with_sense}
 use Rattle.disposition.specs.Disp.{disp, is_retry}
 use Rattle.disposition.specs.declared.todo.Cx.{Cx}
 use Rattle.disposition.specs.declared.todo.Todo.{Todo}
-use Rattle.disposition.specs.Ladder.{Level, fetch_sense, start_unit, give_up, no_level, level_of, is_in_scope, devs}
+use Rattle.mid_base.specs.Levels.{Level, fetch_sense, start_unit, give_up, not_online, no_level, number, level_of}
+use Rattle.disposition.specs.Ladder.{is_in_scope, devs}
 use Rattle.trace_model.specs.Course.{Course, over, next, ask, fetch, in_turn}
-
-abbrev pub test_unit_ready : ℕ
-test_unit_ready = 0
-
-abbrev pub request_sense : ℕ
-request_sense = 3
-
-abbrev pub start_stop_unit : ℕ
-start_stop_unit = 27
 
 -- a first test that is made again
 abbrev pub is_doubtful : ProbeSay → Bool
@@ -53,10 +46,10 @@ on_one_of ds x = list_any (same_dev x.dev) ds
 abbrev pub test_and_clear : ℕ → List Todo → Course
 test_and_clear level xs = tests (devs xs) (λ ready. clear level (filter (on_one_of ready) xs))
 
--- level 1, where the sense was fetched: the answer is judged again
+-- where the sense was fetched: the answer is judged again
 abbrev pub judge_again : Todo → Disp → Course
-judge_again x Success = next (Judged x.cmd x.n Success) (next (Cleared x.cmd 1) over)
-judge_again x Retry = next (Judged x.cmd x.n Retry) (next (Cleared x.cmd 1) over)
+judge_again x Success = next (Judged x.cmd x.n Success) (next (Cleared x.cmd (number fetch_sense)) over)
+judge_again x Retry = next (Judged x.cmd x.n Retry) (next (Cleared x.cmd (number fetch_sense)) over)
 judge_again x d = next (Judged x.cmd x.n d) over
 
 abbrev pub disp_again : Cx → Option Answer → Disp
@@ -70,22 +63,23 @@ fetch_for true (x ∷ xs) =
     ask x.dev request_sense (Some true) (λ say.
     fetch x.cmd x.n (λ sense. judge_again x (disp_again x.cx (option_map (with_sense sense) x.answer))))
 
--- level 3
+-- the unit is started
 abbrev pub start_for : Bool → List Todo → Course
 start_for ok [] = over
 start_for false (x ∷ xs) = ask x.dev start_stop_unit (Some false) (λ say. over)
-start_for true (x ∷ xs) = ask x.dev start_stop_unit (Some true) (λ say. test_and_clear 3 (x ∷ xs))
+start_for true (x ∷ xs) = ask x.dev start_stop_unit (Some true) (λ say. test_and_clear (number start_unit) (x ∷ xs))
 
--- level 8
+-- the device is put offline
 abbrev pub offline_for : List Todo → Course
 offline_for [] = over
-offline_for (x ∷ xs) = next (Offline x.dev) (clear 8 (x ∷ xs))
+offline_for (x ∷ xs) = next (Offline x.dev) (clear (number give_up) (x ∷ xs))
 
 -- an act of a level on the commands of its scope
 abbrev pub act_on : Level → ℕ → Bool → List Todo → Course
 act_on fetch_sense level ok xs = fetch_for ok xs
 act_on start_unit level ok xs = start_for ok xs
 act_on give_up level ok xs = offline_for xs
+act_on not_online level ok xs = over
 act_on no_level level ok xs = over
 act_on _ level true xs = test_and_clear level xs
 act_on _ level false xs = over

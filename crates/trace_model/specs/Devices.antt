@@ -2,7 +2,7 @@
 use Rattle.std.specs.Prelude.{Bool, true, false, if◌then◌else◌, List, [], ◌∷◌}
 use Rattle.mid_base.specs.declared.names.DevAddr.{DevAddr}
 use Rattle.mid_base.specs.declared.states.DeviceState.{DeviceState}
-use Rattle.mid_base.specs.declared.states.DeviceState.TheVariants.{Offline as Gone}
+use Rattle.mid_base.specs.declared.states.DeviceState.TheVariants as device
 use Rattle.mid_base.specs.declared.entries.Entry.{Entry}
 use Rattle.mid_base.specs.declared.entries.Entry.TheVariants.{Failed, EhBegin, EhEnd, Offline, State}
 use Rattle.mid_base.specs.declared.host_spec.HostSpec.{HostSpec}
@@ -13,7 +13,7 @@ use Rattle.trace_model.specs.Names.{start_in}
 abbrev pub state : HostSpec → DevAddr → List Entry → DeviceState
 state s d [] = start_in s.luns d
 state s d (State e x ∷ P) = if same_dev e d then x else state s d P
-state s d (Offline e ∷ P) = if same_dev e d then Gone else state s d P
+state s d (Offline e ∷ P) = if same_dev e d then device.Offline else state s d P
 state s d (_ ∷ P) = state s d P
 
 abbrev pub is_online : HostSpec → DevAddr → List Entry → Bool

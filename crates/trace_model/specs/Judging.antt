@@ -7,7 +7,7 @@ use Rattle.mid_base.specs.declared.answers.Disp.{Disp}
 use Rattle.mid_base.specs.declared.entries.Entry.{Entry}
 use Rattle.mid_base.specs.declared.host_spec.HostSpec.{HostSpec}
 use Rattle.mid_base.specs.Past.{sent_for}
-use Rattle.mid_base.specs.Callbacks.{has_callback}
+use Rattle.mid_base.specs.Levels.{abort, calls}
 use Rattle.trace_model.specs.Names.{command, dev_of}
 use Rattle.disposition.specs.Disp.{disp}
 use Rattle.trace_model.specs.Attempts.{is_open, is_answered, owner, is_by_answer, is_by_expiry, is_settled, is_due}
@@ -45,4 +45,4 @@ is_first n [] = false
 is_first n (m ∷ ms) = m == n
 
 abbrev pub may_abort : HostSpec → List Entry → (c n : ℕ) → Bool → Bool
-may_abort s P c n ok = is_first n (aborts P) && (sent_for n P == c) && (not ok || has_callback s.handlers 1)
+may_abort s P c n ok = is_first n (aborts P) && (sent_for n P == c) && (not ok || calls s.handlers abort)

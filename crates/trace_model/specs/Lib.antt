@@ -3,6 +3,7 @@ pub mod Names
 pub mod Attempts
 pub mod Commands
 pub mod Devices
+pub mod Counts
 pub mod Time
 pub mod Sending
 pub mod Judging
@@ -13,7 +14,7 @@ pub mod Flush
 pub mod Rules
 pub mod Legal
 pub mod Drained
-pub mod Counts
 pub mod Permits
 pub mod Steps
-pub mod Headline
+pub mod Tags
+pub mod Claims

@@ -12,7 +12,8 @@ use Rattle.trace_model.specs.Commands.{standing, is_busy, is_failed, retries}
 use Rattle.trace_model.specs.Devices.{is_online, has_begun}
 use Rattle.disposition.specs.declared.todo.Cx.{Cx}
 use Rattle.disposition.specs.declared.todo.Todo.{Todo}
-use Rattle.disposition.specs.Ladder.{Level, Pair, can_succeed, can_fail, next_of}
+use Rattle.mid_base.specs.Levels.{Level, can_succeed, can_fail}
+use Rattle.disposition.specs.Ladder.{Pair, next_of}
 
 -- a failed command with its attempt
 pub record Failure : Type 0 where

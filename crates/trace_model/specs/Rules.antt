@@ -18,7 +18,7 @@ use Rattle.trace_model.specs.Sending.{may_take, is_refused, may_send, is_strande
 use Rattle.trace_model.specs.Judging.{may_own, to_judge, to_abort, has_abort_left, may_abort, may_retry, disp_of}
 use Rattle.trace_model.specs.Recovery.{failed, todo, listed, may_begin, may_act, next_act}
 use Rattle.disposition.specs.declared.todo.Todo.{Todo}
-use Rattle.disposition.specs.Ladder.{level_of}
+use Rattle.mid_base.specs.Levels.{not_online, number, level_of}
 use Rattle.trace_model.specs.Course.{Course, over, next}
 use Rattle.trace_model.specs.Climb.{climb, clear}
 use Rattle.trace_model.specs.Flush.{is_flushed, is_saved, verdict, is_empty}
@@ -71,7 +71,7 @@ abbrev pub aborted : HostSpec → List Entry → CmdId → Attempt → Bool → 
 aborted s P c n true = next (if may_retry s P c.0 then Again c true else Told c time_out) over
 aborted s P c n false = next (Failed c n true) over
 
--- level 0
+-- its device isn't online
 abbrev pub is_lost : HostSpec → List Entry → Todo → Bool
 is_lost s P x = not (is_online s x.dev P)
 
@@ -79,6 +79,6 @@ is_lost s P x = not (is_online s x.dev P)
 abbrev pub course : HostSpec → List Entry → Entry → Course
 course s P (Judged c n d) = judged c n d (answer n.0 P)
 course s P (Aborted c n ok) = aborted s P c n ok
-course s P EhBegin = clear 0 (filter (is_lost s P) (listed s P))
+course s P EhBegin = clear (number not_online) (filter (is_lost s P) (listed s P))
 course s P (Act level scope ok) = climb (todo s P) level scope ok
 course s P e = over

@@ -1,5 +1,5 @@
 -- Which command is accepted, and which is sent next.
-use Rattle.std.specs.Prelude.{ℕ, zero, suc, ◌+◌, ◌-◌, ◌==◌, Bool, true, false, not, ◌&&◌, ◌||◌, if◌then◌else◌, List, [], ◌∷◌, Option, None, Some, min, max, find, count_by, nat_lt}
+use Rattle.std.specs.Prelude.{ℕ, zero, suc, ◌+◌, ◌==◌, Bool, true, false, not, ◌&&◌, ◌||◌, if◌then◌else◌, List, [], ◌∷◌, Option, None, Some, find, nat_lt}
 use Rattle.std.specs.List.{list_any}
 use Rattle.mid_base.specs.declared.names.DevAddr.{DevAddr}
 use Rattle.mid_base.specs.declared.answers.Answer.{Answer}
@@ -10,9 +10,12 @@ use Rattle.mid_base.specs.declared.host_spec.CmdSpec.{CmdSpec}
 use Rattle.mid_base.specs.declared.host_spec.HostSpec.{HostSpec}
 use Rattle.mid_base.specs.Address.{same_dev}
 use Rattle.mid_base.specs.Answers.{is_good}
+use Rattle.mid_base.specs.Codes.{did_ok, task_set_full}
+use Rattle.mid_base.specs.Depths.{Depth, after_full, after_good}
 use Rattle.trace_model.specs.Names.{dev_of, depth_in, command}
 use Rattle.trace_model.specs.Attempts.{sends, answer}
-use Rattle.trace_model.specs.Commands.{standing, is_new, waits, is_busy, holds, taken}
+use Rattle.trace_model.specs.Commands.{standing, is_new, waits, holds, taken}
+use Rattle.trace_model.specs.Counts.{busy_count, busy_on}
 use Rattle.device_states.specs.States.{is_running, is_closed}
 use Rattle.trace_model.specs.Devices.{state, is_online, in_recovery}
 
@@ -41,29 +44,11 @@ is_refused s P c = is_next_of_lane s P c && is_closed (state s (dev_of s c) P)
 abbrev pub is_held : HostSpec → List Entry → ℕ → Bool
 is_held s P t = list_any (λ k. holds t (standing k.id.0 P)) s.cmds
 
-abbrev pub held : HostSpec → List Entry → ℕ
-held s P = count_by (λ k. is_busy (standing k.id.0 P)) s.cmds
-
-abbrev pub held_of : HostSpec → List Entry → DevAddr → ℕ
-held_of s P d = count_by (λ k. same_dev k.dev d && is_busy (standing k.id.0 P)) s.cmds
-
--- the depth of a device, and the GOODs since it last changed
-abbrev pub Depth : Type 0
-Depth = ℕ × ℕ
-
-abbrev pub after_full : ℕ → Depth → Depth
-after_full held x =
-    let less = max 1 (min x.0 (held - 1)) in
-    if less == x.0 then x else (less, 0)
-
-abbrev pub after_good : ℕ → Depth → Depth
-after_good most x =
-    if x.0 == most then x else if x.1 == 3 then (x.0 + 1, 0) else (x.0, x.1 + 1)
-
+-- the depth of a device after one of its answers, and the GOODs since it last changed
 abbrev pub after_answer : HostSpec → List Entry → DevAddr → Option Answer → Depth → Depth
 after_answer s P d None x = x
 after_answer s P d (Some a) x =
-    if (a.host.0 == 0) && (a.status == 40) then after_full (held_of s P d) x
+    if (a.host.0 == did_ok) && (a.status == task_set_full) then after_full (busy_on s P d) x
     else if is_good a then after_good (depth_in s.luns d) x
     else x
 
@@ -93,7 +78,7 @@ dev_paused s d (_ ∷ P) = dev_paused s d P
 abbrev pub is_ready : HostSpec → List Entry → DevAddr → Bool
 is_ready s P d =
     is_running (state s d P) && not (host_paused P) && not (dev_paused s d P)
-    && nat_lt (held s P) s.can_queue && nat_lt (held_of s P d) (depth s P d)
+    && nat_lt (busy_count s P) s.can_queue && nat_lt (busy_on s P d) (depth s P d)
 
 abbrev pub is_pickable : HostSpec → List Entry → ℕ → Bool
 is_pickable s P c = waits (standing c P) && (not (is_online s (dev_of s c) P) || is_ready s P (dev_of s c))

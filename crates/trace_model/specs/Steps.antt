@@ -1,12 +1,8 @@
--- Which step an entry opens, what a step adds, and the first condition that bars a step. Tags, claims and late answers as the core tells them.
-use Rattle.std.specs.Prelude.{◌≡◌, ℕ, zero, suc, ◌+◌, ◌-◌, ◌^◌, ◌<◌, ◌==◌, Bool, true, false, not, ◌&&◌, ◌||◌, if◌then◌else◌, List, [], ◌∷◌, ◌++◌, Option, None, Some, is_none, nat_lt, nat_le}
+-- Which step an entry opens, what a step adds, and the first condition that bars a step.
+use Rattle.std.specs.Prelude.{ℕ, ◌+◌, ◌==◌, Bool, true, false, not, ◌&&◌, ◌||◌, if◌then◌else◌, List, [], ◌∷◌, Option, None, Some, is_none, nat_lt, nat_le}
 use Rattle.std.specs.List.{list_any}
-use Rattle.mid_base.specs.declared.names.Attempt.{Attempt}
-use Rattle.mid_base.specs.declared.names.Tag.{Tag}
 use Rattle.mid_base.specs.declared.answers.By.{By}
 use Rattle.mid_base.specs.declared.answers.By.TheVariants.{Answer as ByAnswer, Expiry as ByExpiry}
-use Rattle.mid_base.specs.declared.answers.TagState.{TagState}
-use Rattle.mid_base.specs.declared.answers.TagState.TheVariants.{Free as TagFree, Armed as TagArmed, Owned as TagOwned}
 use Rattle.mid_base.specs.declared.entries.Entry.{Entry}
 use Rattle.mid_base.specs.declared.entries.Entry.TheVariants.{Took, Sent, Bounced, Ready, Due, Longer, DoneSaid, Owned, Late, Judged, AbortSet, Aborted, Failed, Again, Told, EhBegin, EhEnd, Act, State, Tick}
 use Rattle.mid_base.specs.declared.steps.Step.{Step}
@@ -16,6 +12,7 @@ use Rattle.mid_base.specs.declared.steps.Why.TheVariants.{LaneDone, Recovery, No
 use Rattle.mid_base.specs.declared.host_spec.HostSpec.{HostSpec}
 use Rattle.mid_base.specs.Address.{same_dev, has_dev}
 use Rattle.mid_base.specs.Past.{ticks}
+use Rattle.mid_base.specs.Limits.{last_number}
 use Rattle.trace_model.specs.Names.{command, dev_of}
 use Rattle.trace_model.specs.Attempts.{sends, attempts, answered, is_open, is_answered, late, owner, is_settled, is_due}
 use Rattle.trace_model.specs.Commands.{aborts}
@@ -66,9 +63,6 @@ abbrev pub first_why : List (Bool × Why) → Option Why
 first_why [] = None
 first_why (b ∷ bs) = if b.0 then Some b.1 else first_why bs
 
-abbrev pub most : ℕ
-most = 2 ^ 60 - 1
-
 -- the command that Send would pick is on an online device
 abbrev pub would_send : HostSpec → List Entry → Option ℕ → Bool
 would_send s P None = false
@@ -77,7 +71,7 @@ would_send s P (Some c) = is_online s (dev_of s c) P
 -- the first condition that bars a step, where `due` says whether the lower layer has an answer
 abbrev pub barred : HostSpec → Bool → List Entry → Step → Option Why
 barred s due P (Submit lane) = first_why ((is_none (next_of_lane s P lane.0), LaneDone) ∷ [])
-barred s due P Send = first_why ((in_recovery P, Recovery) ∷ (is_none (pick s P), NoSend) ∷ (would_send s P (pick s P) && nat_le most (sends P + 1), Spent) ∷ [])
+barred s due P Send = first_why ((in_recovery P, Recovery) ∷ (is_none (pick s P), NoSend) ∷ (would_send s P (pick s P) && nat_le last_number (sends P + 1), Spent) ∷ [])
 barred s due P Work = first_why ((not due, NoWork) ∷ [])
 barred s due P AskDue = first_why ((not (list_any (is_expired s P) (attempts P)), NoDue) ∷ [])
 barred s due P (Own n ByAnswer) = first_why ((not (is_open n.0 P), NotOpen) ∷ (not (is_answered n.0 P), NotReady) ∷ [])
@@ -93,53 +87,5 @@ barred s due P GoOn = first_why (
     (due, WorkDue)
     ∷ (list_any (λ n. is_open n P && is_answered n P) (attempts P) || list_any (λ n. nat_lt 0 (late n P)) (answered P), AnswerWaiting)
     ∷ (list_any (λ n. is_expired s P n || (is_open n P && is_due n P)) (attempts P), ExpiryWaiting)
-    ∷ (nat_le most (ticks P), Spent) ∷ [])
+    ∷ (nat_le last_number (ticks P), Spent) ∷ [])
 barred s due P (SetState d x) = first_why ((has_begun P, EhRunning) ∷ (not (has_dev s.luns d && may_become (state s d P) x), Illegal) ∷ [])
-
--- the last attempt that was sent with a tag; 0 for none
-abbrev pub sent_with : ℕ → List Entry → ℕ
-sent_with t [] = 0
-sent_with t (Sent c n u ∷ P) = if u.0 == t then n.0 else sent_with t P
-sent_with t (_ ∷ P) = sent_with t P
-
-abbrev pub state_by : ℕ → Bool → Bool → Option By → TagState
-state_by n true settled by = TagArmed (record { 0 = n })
-state_by n false false (Some by) = TagOwned (record { 0 = n }) by
-state_by n _ _ _ = TagFree
-
-abbrev pub tag_state : List Entry → ℕ → TagState
-tag_state P t = state_by (sent_with t P) (is_open (sent_with t P) P) (is_settled (sent_with t P) P) (owner (sent_with t P) P)
-
--- the states of n tags from t on
-abbrev pub tags_from : (t n : ℕ) → List Entry → List TagState
-tags_from t zero P = []
-tags_from t (suc n) P = tag_state P t ∷ tags_from (t + 1) n P
-
--- the state of each tag of the host, in order
-abbrev pub tag_states : HostSpec → List Entry → List TagState
-tag_states s P = tags_from 0 s.can_queue P
-
--- the tag that n was sent with
-abbrev pub tag_for : ℕ → List Entry → Tag
-tag_for n [] = record { 0 = 0 }
-tag_for n (Sent c m t ∷ P) = if m.0 == n then t else tag_for n P
-tag_for n (_ ∷ P) = tag_for n P
-
--- an attempt that waits for its owner, by its answer before its expiry
-abbrev pub claims_of : List Entry → ℕ → List (Tag × Attempt × By)
-claims_of P n =
-    (if is_open n P && is_answered n P then (tag_for n P, record { 0 = n }, ByAnswer) ∷ [] else [])
-    ++ (if is_open n P && is_due n P then (tag_for n P, record { 0 = n }, ByExpiry) ∷ [] else [])
-
-abbrev pub claims_among : List Entry → List ℕ → List (Tag × Attempt × By)
-claims_among P [] = []
-claims_among P (n ∷ ns) = claims_among P ns ++ claims_of P n
-
--- the attempts that wait for their owner, in ascending numbers
-abbrev pub waiting_claims : List Entry → List (Tag × Attempt × By)
-waiting_claims P = claims_among P (attempts P)
-
--- the least attempt with an answer that is to be ignored, or none where there is no such answer
-abbrev pub IsNextLate : List Entry → Option Attempt → Type 0
-IsNextLate P None = (n : ℕ) → late n P ≡ 0
-IsNextLate P (Some m) = (0 < late m.0 P) × ((n : ℕ) → n < m.0 → late n P ≡ 0)

@@ -3,7 +3,6 @@ ghost use Rattle.mid_base.specs.declared.entries.Entry.{Entry};
 ghost use Rattle.mid_base.specs.declared.host_spec.HostSpec.{HostSpec};
 ghost use Rattle.trace_model.specs.Counts.{owners, QuietActs};
 ghost use Rattle.trace_model.specs.Drained.{tellings, NoneAfterTold};
-ghost use Rattle.trace_model.specs.Headline.{Headline};
 ghost use Rattle.trace_model.specs.Course.{IsOver, Meets};
 ghost use Rattle.trace_model.specs.Legal.{Legal, LegalByPlaces, EachStands, owed};
 ghost use Rattle.trace_model.specs.Permits.{Permits};
@@ -46,9 +45,4 @@ pub fn each_command_is_told_once()
 /// Nothing of a command stands after its report.
 pub fn nothing_follows_a_report()
     ensures { (s : HostSpec) (journal : List Entry) (c : ℕ) → LegalByPlaces s journal → NoneAfterTold c (reverse journal) }
-{}
-
-/// What a legal journal promises whoever hands commands in, all at once.
-pub fn legal_journals_keep_the_headline()
-    ensures { (s : HostSpec) (journal : List Entry) → Legal s journal → Headline s journal }
 {}

@@ -5,6 +5,10 @@ use Rattle.mid_base.specs.declared.host_spec.HostSpec.{HostSpec}
 use Rattle.trace_model.specs.Course.{IsOver}
 use Rattle.trace_model.specs.Legal.{EachStands, FirstWrong, owed}
 
+-- the entries before place i, the newest first
+abbrev pub before : ℕ → List Entry → List Entry
+before i journal = reverse (take i journal)
+
 -- the entry in place i is left out
 abbrev pub without : ℕ → List Entry → List Entry
 without i journal = take i journal ++ drop (i + 1) journal

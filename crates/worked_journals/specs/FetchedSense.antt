@@ -8,7 +8,6 @@ use Rattle.mid_base.specs.declared.entries.Entry.{Entry}
 use Rattle.mid_base.specs.declared.entries.Entry.TheVariants.{EhBegin, EhEnd, Act, Tick}
 use Rattle.mid_base.specs.declared.host_spec.HostSpec.{HostSpec}
 use Rattle.worked_journals.specs.Hosts.{host, lun, test_unit, all_callbacks}
-use Rattle.trace_model.specs.Climb.{request_sense}
 use Rattle.worked_journals.specs.Say.{fine, moved, checked, was_reset, took, sent, ready, owned, judged, failed, cleared, sensed, again, told, probe}
 
 abbrev pub fetched_sense_spec : HostSpec
@@ -25,7 +24,7 @@ fetched_sense =
     failed 1 1 false ∷
     EhBegin ∷
     Act 1 (Cmd (record { 0 = 1 })) true ∷
-    probe request_sense (moved 18 169) ∷
+    probe 3 (moved 18 169) ∷
     sensed 1 1 was_reset ∷
     judged 1 1 Retry ∷
     cleared 1 1 ∷

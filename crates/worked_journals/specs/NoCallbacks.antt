@@ -2,12 +2,11 @@
 use Rattle.std.specs.Prelude.{true, false, List, [], ◌∷◌}
 use Rattle.mid_base.specs.declared.answers.By.TheVariants.{Expiry}
 use Rattle.mid_base.specs.declared.answers.Scope.TheVariants.{Dev, Target, Bus, Host}
-use Rattle.mid_base.specs.Answers.{no_connect, time_out}
 use Rattle.mid_base.specs.declared.entries.Entry.{Entry}
 use Rattle.mid_base.specs.declared.entries.Entry.TheVariants.{EhBegin, EhEnd, Act, Offline, Tick}
 use Rattle.mid_base.specs.declared.host_spec.HostSpec.{HostSpec}
 use Rattle.worked_journals.specs.Hosts.{host, lun, test_unit, unit}
-use Rattle.worked_journals.specs.Say.{took, sent, due, owned, abort_set, aborted, failed, cleared, told}
+use Rattle.worked_journals.specs.Say.{bare, took, sent, due, owned, abort_set, aborted, failed, cleared, told}
 
 abbrev pub no_callbacks_spec : HostSpec
 no_callbacks_spec = host 4 0 (lun 1 false) (test_unit 1 2 ∷ test_unit 2 2 ∷ [])
@@ -32,8 +31,8 @@ no_callbacks =
     Act 8 (Dev unit) true ∷
     Offline unit ∷
     cleared 1 8 ∷
-    told 1 time_out ∷
+    told 1 (bare 3 0) ∷
     EhEnd ∷
     Tick ∷
-    told 2 no_connect ∷
+    told 2 (bare 1 0) ∷
     []

@@ -7,7 +7,6 @@ use Rattle.mid_base.specs.declared.entries.Entry.{Entry}
 use Rattle.mid_base.specs.declared.entries.Entry.TheVariants.{EhBegin, EhEnd, Act, Tick}
 use Rattle.mid_base.specs.declared.host_spec.HostSpec.{HostSpec}
 use Rattle.worked_journals.specs.Hosts.{host, lun, read_one, unit, all_callbacks, device_reset}
-use Rattle.trace_model.specs.Climb.{test_unit_ready, start_stop_unit}
 use Rattle.worked_journals.specs.Say.{fine, moved, checked, was_reset, not_started, took, sent, ready, due, owned, judged, abort_set, aborted, failed, cleared, again, told, probe}
 
 abbrev pub start_unit_spec : HostSpec
@@ -24,8 +23,8 @@ start_unit =
     failed 1 1 false ∷
     EhBegin ∷
     Act 3 (Dev unit) true ∷
-    probe start_stop_unit fine ∷
-    probe test_unit_ready fine ∷
+    probe 27 fine ∷
+    probe 0 fine ∷
     cleared 1 3 ∷
     again 1 true ∷
     EhEnd ∷
@@ -60,8 +59,8 @@ reset_unit =
     failed 2 2 true ∷
     EhBegin ∷
     Act 4 (Dev unit) true ∷
-    probe test_unit_ready (checked was_reset) ∷
-    probe test_unit_ready fine ∷
+    probe 0 (checked was_reset) ∷
+    probe 0 fine ∷
     cleared 1 4 ∷
     cleared 2 4 ∷
     again 1 true ∷

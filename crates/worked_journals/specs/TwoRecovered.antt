@@ -8,7 +8,6 @@ use Rattle.mid_base.specs.declared.entries.Entry.{Entry}
 use Rattle.mid_base.specs.declared.entries.Entry.TheVariants.{EhBegin, EhEnd, Act, Tick}
 use Rattle.mid_base.specs.declared.host_spec.HostSpec.{HostSpec}
 use Rattle.worked_journals.specs.Hosts.{host, lun, test_unit, unit, device_reset}
-use Rattle.trace_model.specs.Climb.{test_unit_ready}
 use Rattle.worked_journals.specs.Say.{fine, checked, was_reset, took, sent, ready, due, owned, judged, abort_set, aborted, failed, cleared, again, told, probe}
 
 abbrev pub two_recovered_spec : HostSpec
@@ -36,8 +35,8 @@ two_recovered =
     failed 2 2 true ∷
     EhBegin ∷
     Act 4 (Dev unit) true ∷
-    probe test_unit_ready (checked was_reset) ∷
-    probe test_unit_ready fine ∷
+    probe 0 (checked was_reset) ∷
+    probe 0 fine ∷
     cleared 1 4 ∷
     cleared 2 4 ∷
     again 1 true ∷

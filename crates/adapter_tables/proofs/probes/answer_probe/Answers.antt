@@ -12,7 +12,7 @@ unreachable-requires c =
 pub put_front-requires-clause-has : goal.put_front-requires-clause-has
 put_front-requires-clause-has c =
     let few : c.in-Ok.a.moved ≤ 2056 = moved_few c.args.x.now.luns.items (unit_of c.args.x.now.lun) c.args.cdb.now c.in-Ok.a c.requires.known c.in-Ok.ensures.ok.answer in
-    omega (arith, few, c.requires.buffer, c.clear.auto.buffer, c.serve_probe.auto.buffer)
+    omega (arith, few, c.requires.buffer, c.serve_probe.auto.buffer)
 
 pub put_front-requires-clause-room : goal.put_front-requires-clause-room
 put_front-requires-clause-room c =
@@ -20,5 +20,5 @@ put_front-requires-clause-room c =
     omega (arith, few, c.requires.room)
 
 pub returns-clause-given : goal.returns-clause-given
-returns-clause-given c = data_taken c.args.x.now.luns.items (unit_of c.args.x.now.lun) c.args.cdb.now c.in-Ok.a c.serve_probe.new.buffer c.put_front.new.into c.requires.known
+returns-clause-given c = data_taken c.args.x.now.luns.items (unit_of c.args.x.now.lun) c.args.cdb.now c.in-Ok.a c.serve_probe.new.buffer c.args.buffer.now c.put_front.new.into c.requires.known
     c.in-Ok.ensures.ok.answer c.in-Ok.ensures.given c.put_front.ensures

@@ -1,6 +1,6 @@
 use Rattle.std.proofs.Common.{refl, inr, sym, ap, ◌∙◌, Some}
 use Rattle.std.proofs.lemmas.Option.{slice_get-get_or}
-use Rattle.adapter_tables.specs.declared.unit_row.UnitRow.{UnitRow}
+use Rattle.adapter_tables.specs.declared.device_rows.UnitRow.{UnitRow}
 use Rattle.adapter_tables.proofs.AddressLaws.{unit_devs_set}
 use Rattle.adapter_tables.proofs.UnitLaws.{kept_set}
 use Rattle.adapter_tables.proofs.units.answer_held.Goals as goal

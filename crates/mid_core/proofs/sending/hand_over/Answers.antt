@@ -4,7 +4,7 @@ use Rattle.mid_base.specs.declared.entries.Entry.{Entry}
 use Rattle.mid_base.specs.declared.entries.Entry.TheVariants.{Sent, Bounced}
 use Rattle.mid_base.specs.declared.host_spec.CmdSpec.{CmdSpec}
 use Rattle.mid_base.specs.declared.names.Attempt.{Attempt}
-use Rattle.host_state.specs.Runs.{Runs}
+use Rattle.host_state.specs.HostAgrees.{HostAgrees}
 use Rattle.mid_core.specs.Choices.{bounced}
 use Rattle.mid_core.proofs.Known.{spec_within}
 use Rattle.mid_core.proofs.Offered.{can_send, still_picked, read_there, read_id, command_of, number_is, fits, queued_is}
@@ -37,9 +37,9 @@ returns-in-None-clause-runs g c = λ P runs may.
       command = k;
       at = read;
       id = refl;
-      number = ap (λ (m : ℕ). m + 1) (c.count.ensures ∙ sym roomy.attempts.sends_are);
+      number = ap (λ (m : ℕ). m + 1) (c.count.ensures ∙ sym roomy.attempts.0.sends_are);
       least = sent.0;
-      runs = subst (λ (n : Attempt). Runs s (Sent k.id n c.send-sending.result.tag ∷ P) c.send-sending.new.self) number sent.1;
+      runs = subst (λ (n : Attempt). HostAgrees s (Sent k.id n c.send-sending.result.tag ∷ P) c.send-sending.new.self) number sent.1;
     }
 
 pub returns-in-None-clause-stands : goal.returns-in-None-clause-stands
@@ -75,9 +75,9 @@ returns-in-Some-clause-runs g c = λ P runs may.
       command = k;
       at = read;
       id = refl;
-      number = ap (λ (m : ℕ). m + 1) (c.count.ensures ∙ sym roomy.attempts.sends_are);
+      number = ap (λ (m : ℕ). m + 1) (c.count.ensures ∙ sym roomy.attempts.0.sends_are);
       least = sent.0;
-      runs = subst (λ (n : Attempt). Runs s (Bounced k.id n c.in-Some.why ∷ Sent k.id n c.send_in_vain-sending.result.tag ∷ P) c.send_in_vain-sending.new.self) number sent.1;
+      runs = subst (λ (n : Attempt). HostAgrees s (Bounced k.id n c.in-Some.why ∷ Sent k.id n c.send_in_vain-sending.result.tag ∷ P) c.send_in_vain-sending.new.self) number sent.1;
     }
 
 pub returns-in-Some-clause-stands : goal.returns-in-Some-clause-stands

@@ -21,6 +21,7 @@ pub returns-clause-answer : goal.returns-clause-answer
 returns-clause-answer g c =
     let P = reverse c.args.entries.now in
     let results = flat_map (result_line P) (ids_of c.args.cmds.now) in
-    let same = ap (flat_map (gathered_line c.in-Ok.results)) (c.deref.ensures.value ∙ c.in-Ok-ids_in_order.ensures) ∙ results_are c.in-Ok.results P (ids_of c.args.cmds.now) c.in-Ok.ensures in
+    let part = gathered_line c.args.entries.now c.in-Ok.results in
+    let same = ap (flat_map part) (c.deref.ensures.value ∙ c.in-Ok-ids_in_order.ensures) ∙ results_are c.in-Ok.results c.args.entries.now (ids_of c.args.cmds.now) c.in-Ok.ensures in
     ends_on _ _ _ (host_line c.args.host.0) (entry_lines P ++ results) _ _ _ _ c.in_default-put_host.ensures.answer c.put_host.ensures.later
-    (ends_as _ _ _ (entry_lines P) results (flat_map (gathered_line c.in-Ok.results) c.deref.result.now) _ _ _ _ c.in_default-write_entries.ensures.answer c.write_entries.ensures.later same c.write_results.ensures.answer)
+    (ends_as _ _ _ (entry_lines P) results (flat_map part c.deref.result.now) _ _ _ _ c.in_default-write_entries.ensures.answer c.write_entries.ensures.later same c.write_results.ensures.answer)

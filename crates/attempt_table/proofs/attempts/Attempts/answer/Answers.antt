@@ -1,21 +1,25 @@
-use Rattle.std.proofs.Common.{◌≡◌, false, sym, ◌∙◌}
-use Rattle.attempt_table.specs.declared.rows.Phase.TheVariants.{Answered}
-use Rattle.attempt_table.specs.Rows.{row_of, wanting_in}
-use Rattle.attempt_table.proofs.Places.{wanting_row}
-use Rattle.attempt_table.proofs.Entries.{says_answered, says_stray}
+use Rattle.std.proofs.Common.{◌≡◌, ap, sym, ◌∙◌, arith}
+use Rattle.attempt_table.specs.Rows.{row_of, with_answer, tag_in, Becomes}
+use Rattle.attempt_table.proofs.Moves.{says_answered, says_stray}
+use Rattle.attempt_table.proofs.Found.{wanting_is, wanting_none}
 use Rattle.attempt_table.proofs.attempts.Attempts.answer.Goals as goal
 
-pub returns-then-is_wanting-clause-tells : goal.returns-then-is_wanting-clause-tells
-returns-then-is_wanting-clause-tells c = λ s P tells.
+pub returns-in-Some-clause-tells : goal.returns-in-Some-clause-tells
+returns-in-Some-clause-tells c = λ s P tells.
     let t = c.args.self.now in
-    let h = c.enter.ensures in
-    let is = wanting_row c.args.n.0 (Answered c.args.a) t.rows.items c.enter.new.rows.items h (sym c.is_wanting.ensures ∙ c.if-is_wanting.true) in
-    rw (c.claim.ensures, c.tag_of-tag.ensures)
-    (says_answered s P t.rows.items t.tags.items t.claims.items t.lates.items tells c.args.n c.args.a c.enter.new.rows.items h is)
+    let found = wanting_is (row_of c.args.n.0 t.rows.items) c.in-Some.row (sym c.wanting.ensures ∙ c.in-Some.is) in
+    let h : Becomes c.args.n.0 with_answer t.rows.items c.write.new.rows.items = record { row = c.in-Some.row; was = found.0; is = c.write.ensures } in
+    let tag = ap tag_in found.0 in (
+      rw (c.keep.ensures, c.claim.ensures.claims, ← tag)
+          (says_answered s P t.rows.items t.tags.items t.kept.items t.claims.items t.lates.items tells.0 c.args.n c.args.a c.write.new.rows.items h found.1),
+      omega (arith, c.claim.ensures.count, c.requires.lates),
+    )
 
-pub returns-else-is_wanting-clause-tells : goal.returns-else-is_wanting-clause-tells
-returns-else-is_wanting-clause-tells c = λ s P tells.
+pub returns-in-None-clause-tells : goal.returns-in-None-clause-tells
+returns-in-None-clause-tells c = λ s P tells.
     let t = c.args.self.now in
-    let un : wanting_in (row_of c.args.n.0 t.rows.items) ≡ false = sym c.is_wanting.ensures ∙ c.if-is_wanting.false in
-    rw c.push_reserved.ensures.items
-    (says_stray s P t.rows.items t.tags.items t.claims.items t.lates.items tells c.args.n c.args.a un)
+    let un = wanting_none (row_of c.args.n.0 t.rows.items) (sym c.wanting.ensures ∙ c.in-None.is) in (
+      rw c.push_reserved.ensures.items
+          (says_stray s P t.rows.items t.tags.items t.kept.items t.claims.items t.lates.items tells.0 c.args.n c.args.a un),
+      omega (arith, c.push_reserved.ensures.len, c.push_reserved.ensures.capacity, c.requires.lates),
+    )

@@ -1,12 +1,15 @@
-use Rattle.attempt_table.specs.declared.rows.Phase.TheVariants.{Bounced}
-use Rattle.attempt_table.proofs.Places.{wanting_row}
-use Rattle.attempt_table.proofs.Entries.{says_bounced}
+use Rattle.std.proofs.Common.{◌≡◌, ap, sym, ◌∙◌}
+use Rattle.attempt_table.specs.Rows.{row_of, turned_away, tag_in, Becomes}
+use Rattle.attempt_table.proofs.Moves.{says_bounced}
 use Rattle.attempt_table.proofs.attempts.Attempts.bounce.Goals as goal
 
-pub returns-clause-tells : goal.returns-clause-tells
-returns-clause-tells c = λ s P k why tells.
+pub returns-in-Some-clause-tells : goal.returns-in-Some-clause-tells
+returns-in-Some-clause-tells c = λ s P k why tells.
     let t = c.args.self.now in
-    let h = c.enter.ensures in
-    let is = wanting_row c.args.n.0 Bounced t.rows.items c.enter.new.rows.items h c.requires in
-    rw (c.show.ensures, c.tag_of-tag.ensures)
-    (says_bounced s P t.rows.items t.tags.items t.claims.items t.lates.items tells k c.args.n why c.enter.new.rows.items h is)
+    let found = sym c.row.ensures ∙ c.in-Some.is in
+    let h : Becomes c.args.n.0 turned_away t.rows.items c.write.new.rows.items = record { row = c.in-Some.row; was = found; is = c.write.ensures } in
+    let tag = ap tag_in found in (
+      rw (c.show.ensures, ← tag)
+          (says_bounced s P t.rows.items t.tags.items t.kept.items t.claims.items t.lates.items tells.0 k c.args.n why c.write.new.rows.items h c.requires),
+      tells.1,
+    )

@@ -6,4 +6,4 @@ use Rattle.attempt_table.proofs.attempts.Attempts.has_late.Goals as goal
 pub returns : goal.returns
 returns c = λ s P tells.
     let none : c.is_empty.result ≡ is_empty c.args.self.now.lates.items = search rules in
-    late_some P c.args.self.now.lates.items tells.lates ∙ ap not (sym none)
+    late_some P c.args.self.now.lates.items tells.0.lates_are ∙ ap not (sym none)

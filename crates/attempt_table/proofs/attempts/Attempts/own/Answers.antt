@@ -1,25 +1,70 @@
-use Rattle.std.proofs.Common.{rules, ◌≡◌, Some, ap, sym, ◌∙◌}
-use Rattle.attempt_table.specs.declared.rows.Phase.TheVariants.{Answered}
+use Rattle.std.proofs.Common.{◌≡◌, ◌≤◌, ◌<◌, ◌+◌, ◌-◌, true, false, Bool, List, ◌∷◌, [], ◌++◌, Some, ℕ, length, vec_len, vec_capacity, refl, ap, sym, ◌∙◌, subst, arith}
+use Rattle.std.specs.Prelude.{slice_get, slice_set}
+use Rattle.mid_base.specs.declared.entries.Entry.{Entry}
+use Rattle.mid_base.specs.declared.entries.Entry.TheVariants.{Owned}
+use Rattle.mid_base.specs.declared.host_spec.HostSpec.{HostSpec}
+use Rattle.mid_base.specs.declared.answers.TagState.TheVariants.{Armed}
 use Rattle.attempt_table.specs.declared.rows.Row.{Row}
-use Rattle.attempt_table.specs.Rows.{row_of, tag_in}
-use Rattle.attempt_table.proofs.Shown.{claimed_is_armed}
-use Rattle.attempt_table.proofs.Entries.{says_owned}
+use Rattle.attempt_table.specs.Rows.{row_of, given_to, tag_in, is_unwanted, Becomes}
+use Rattle.attempt_table.specs.Claims.{claims_without}
+use Rattle.attempt_table.proofs.Shown.{some_claim, claimed_is_armed}
+use Rattle.attempt_table.proofs.Changes.{claims_fewer}
+use Rattle.attempt_table.proofs.Moves.{says_owned, later}
 use Rattle.attempt_table.proofs.attempts.Attempts.own.Goals as goal
 
-pub returns-in-Some-Answered-clause-tells : goal.returns-in-Some-Answered-clause-tells
-returns-in-Some-Answered-clause-tells c = λ s P tells.
+pub push_reserved-requires : goal.push_reserved-requires
+push_reserved-requires c =
     let t = c.args.self.now in
-    let a = c.in-Some-Answered.a in
-    let h = c.enter.ensures in
-    let found : row_of c.args.n.0 t.rows.items ≡ Some c.in-Some-Answered.field-0 = sym c.row.ensures ∙ c.in-Some-Answered.is in
-    let same : h.row ≡ c.in-Some-Answered.field-0 = cc (h.was, found) in
-    let known : c.in-Some-Answered.field-0.phase ≡ Answered a = search rules in
-    let is : h.row.phase ≡ Answered a = ap (λ (r : Row). r.phase) same ∙ known in
-    let tag : tag_in (row_of c.args.n.0 t.rows.items) ≡ c.in-Some-Answered.field-0.tag = ap tag_in found in
-    rw (c.show.ensures, ← tag, c.unclaim.ensures)
-    (says_owned s P t.rows.items t.tags.items t.claims.items t.lates.items tells c.args.n a c.enter.new.rows.items h is)
+    let tied = c.requires.tied in
+    let found = sym c.row.ensures ∙ c.in-Some.is in
+    let fewer = claims_fewer tied.spec tied.entries t.rows.items t.tags.items t.kept.items t.claims.items t.lates.items tied.agrees.0 c.args.n.0 c.in-Some.row found in
+    let some = some_claim c.args.n.0 c.args.by (row_of c.args.n.0 t.rows.items) c.requires.waits in
+    let count : vec_len t.claims ≡ length t.claims.items = t.claims.ok.0 in
+    omega (arith, fewer, some, count, tied.agrees.1)
 
-pub returns-in-Some-Answered-clause-armed : goal.returns-in-Some-Answered-clause-armed
-returns-in-Some-Answered-clause-armed c = λ s P tells.
+pub returns-then-is_unwanted-clause-tells : goal.returns-then-is_unwanted-clause-tells
+returns-then-is_unwanted-clause-tells c = λ s P tells.
     let t = c.args.self.now in
-    claimed_is_armed s P t.rows.items t.tags.items t.claims.items t.lates.items tells c.args.n.0 c.requires
+    let found = sym c.row.ensures ∙ c.in-Some.is in
+    let is = c.write.ensures ∙ ap (λ (r : Row). slice_set t.rows.items (c.args.n.0 - 1) r) c.given_to.ensures in
+    let h : Becomes c.args.n.0 (given_to c.args.by) t.rows.items c.write.new.rows.items = record { row = c.in-Some.row; was = found; is = is } in
+    let tag = ap tag_in found in
+    let unwanted : is_unwanted c.args.by c.in-Some.row ≡ true = sym c.is_unwanted.ensures ∙ c.if-is_unwanted.true in
+    let lates : later s P t.rows.items t.tags.items t.kept.items t.claims.items t.lates.items tells.0 (is_unwanted c.args.by c.in-Some.row) c.args.n.0 ≡ c.push_reserved.new.self.items =
+    rw unwanted (sym c.push_reserved.ensures.items)
+    in
+    let fewer = claims_fewer s P t.rows.items t.tags.items t.kept.items t.claims.items t.lates.items tells.0 c.args.n.0 c.in-Some.row found in
+    let some = some_claim c.args.n.0 c.args.by (row_of c.args.n.0 t.rows.items) c.requires.waits in
+    let before : vec_len t.claims ≡ length t.claims.items = t.claims.ok.0 in
+    let after : vec_len c.unclaim.new.claims ≡ length c.unclaim.new.claims.items = c.unclaim.new.claims.ok.0 in
+    let left : length c.unclaim.new.claims.items ≡ length (claims_without c.args.n.0 t.claims.items) = ap length c.unclaim.ensures.claims in (
+      rw (c.show.ensures, ← tag, c.unclaim.ensures.claims, ← lates)
+          (says_owned s P t.rows.items t.tags.items t.kept.items t.claims.items t.lates.items tells.0 c.args.n c.args.by c.write.new.rows.items h c.requires.waits),
+      omega (arith, tells.1, fewer, some, before, after, left, c.push_reserved.ensures.len, c.push_reserved.ensures.capacity),
+    )
+
+pub returns-then-is_unwanted-clause-armed : goal.returns-then-is_unwanted-clause-armed
+returns-then-is_unwanted-clause-armed c =
+    let t = c.args.self.now in
+    let tied = c.requires.tied in
+    claimed_is_armed tied.spec tied.entries t.rows.items t.tags.items t.kept.items t.claims.items t.lates.items tied.agrees.0 c.args.n.0 c.args.by c.requires.waits
+
+pub returns-else-is_unwanted-clause-tells : goal.returns-else-is_unwanted-clause-tells
+returns-else-is_unwanted-clause-tells c = λ s P tells.
+    let t = c.args.self.now in
+    let found = sym c.row.ensures ∙ c.in-Some.is in
+    let is = c.write.ensures ∙ ap (λ (r : Row). slice_set t.rows.items (c.args.n.0 - 1) r) c.given_to.ensures in
+    let h : Becomes c.args.n.0 (given_to c.args.by) t.rows.items c.write.new.rows.items = record { row = c.in-Some.row; was = found; is = is } in
+    let tag = ap tag_in found in
+    let wanted : is_unwanted c.args.by c.in-Some.row ≡ false = sym c.is_unwanted.ensures ∙ c.if-is_unwanted.false in
+    let lates : later s P t.rows.items t.tags.items t.kept.items t.claims.items t.lates.items tells.0 (is_unwanted c.args.by c.in-Some.row) c.args.n.0 ≡ t.lates.items = rw wanted refl in (
+      rw (c.show.ensures, ← tag, c.unclaim.ensures.claims, ← lates)
+          (says_owned s P t.rows.items t.tags.items t.kept.items t.claims.items t.lates.items tells.0 c.args.n c.args.by c.write.new.rows.items h c.requires.waits),
+      omega (arith, tells.1, c.unclaim.ensures.count),
+    )
+
+pub returns-else-is_unwanted-clause-armed : goal.returns-else-is_unwanted-clause-armed
+returns-else-is_unwanted-clause-armed c =
+    let t = c.args.self.now in
+    let tied = c.requires.tied in
+    claimed_is_armed tied.spec tied.entries t.rows.items t.tags.items t.kept.items t.claims.items t.lates.items tied.agrees.0 c.args.n.0 c.args.by c.requires.waits

@@ -3,8 +3,10 @@ use Rattle.attempt_table.proofs.Sending.{says_sent}
 use Rattle.attempt_table.proofs.attempts.Attempts.send.Goals as goal
 
 pub returns-clause-tells : goal.returns-clause-tells
-returns-clause-tells c = λ s P tells due.
+returns-clause-tells c = λ s P tells.
     let t = c.args.self.now in
-    let number : c.len.result ≡ length t.rows.items = search rules in
-    rw (c.show.ensures, c.push_reserved.ensures.items, number)
-    (says_sent s P t.rows.items t.tags.items t.claims.items t.lates.items tells c.args.row c.requires.open c.requires.free due)
+    let number : c.len.result ≡ length t.rows.items = search rules in (
+      rw (c.show.ensures, c.push_reserved.ensures.items, c.sent_row.ensures, number)
+          (says_sent s P t.rows.items t.tags.items t.kept.items t.claims.items t.lates.items tells.0 c.args.command c.args.place c.args.tag c.requires.free),
+      tells.1,
+    )

@@ -1,25 +1,23 @@
-use Rattle.std.proofs.Common.{rules, ◌≡◌, Some, ap, sym, ◌∙◌}
-use Rattle.attempt_table.specs.declared.rows.Phase.TheVariants.{Owned}
-use Rattle.attempt_table.specs.declared.rows.Row.{Row}
-use Rattle.attempt_table.specs.Rows.{row_of, tag_in}
-use Rattle.attempt_table.proofs.Shown.{owned_is_shown}
-use Rattle.attempt_table.proofs.Entries.{says_judged}
+use Rattle.std.proofs.Common.{◌≡◌, ap, sym, ◌∙◌}
+use Rattle.attempt_table.specs.Rows.{row_of, at_end, open_in, owned_in, tag_in, Becomes}
+use Rattle.attempt_table.proofs.Bools.{or_second}
+use Rattle.attempt_table.proofs.Shown.{live_is_shown}
+use Rattle.attempt_table.proofs.Moves.{says_settled}
 use Rattle.attempt_table.proofs.attempts.Attempts.settle.Goals as goal
 
-pub returns-in-Some-Owned-clause-tells : goal.returns-in-Some-Owned-clause-tells
-returns-in-Some-Owned-clause-tells c = λ s P k d tells.
+pub returns-in-Some-clause-tells : goal.returns-in-Some-clause-tells
+returns-in-Some-clause-tells c = λ s P e of tells.
     let t = c.args.self.now in
-    let a = c.in-Some-Owned.a in
-    let h = c.enter.ensures in
-    let found : row_of c.args.n.0 t.rows.items ≡ Some c.in-Some-Owned.field-0 = sym c.row.ensures ∙ c.in-Some-Owned.is in
-    let same : h.row ≡ c.in-Some-Owned.field-0 = cc (h.was, found) in
-    let known : c.in-Some-Owned.field-0.phase ≡ Owned a = search rules in
-    let is : h.row.phase ≡ Owned a = ap (λ (r : Row). r.phase) same ∙ known in
-    let tag : tag_in (row_of c.args.n.0 t.rows.items) ≡ c.in-Some-Owned.field-0.tag = ap tag_in found in
-    rw (c.show.ensures, ← tag)
-    (says_judged s P t.rows.items t.tags.items t.claims.items t.lates.items tells k c.args.n d a c.enter.new.rows.items h is)
+    let found = sym c.row.ensures ∙ c.in-Some.is in
+    let h : Becomes c.args.n.0 at_end t.rows.items c.write.new.rows.items = record { row = c.in-Some.row; was = found; is = c.write.ensures } in
+    let tag = ap tag_in found in (
+      rw (c.show.ensures, ← tag)
+          (says_settled s P t.rows.items t.tags.items t.kept.items t.claims.items t.lates.items tells.0 c.args.n.0 e c.write.new.rows.items of h c.requires),
+      tells.1,
+    )
 
-pub returns-in-Some-Owned-clause-owned : goal.returns-in-Some-Owned-clause-owned
-returns-in-Some-Owned-clause-owned c = λ s P tells.
+pub returns-in-Some-clause-owned : goal.returns-in-Some-clause-owned
+returns-in-Some-clause-owned c = λ s P tells.
     let t = c.args.self.now in
-    owned_is_shown s P t.rows.items t.tags.items t.claims.items t.lates.items tells c.args.n.0 c.requires
+    let x = row_of c.args.n.0 t.rows.items in
+    live_is_shown s P t.rows.items t.tags.items t.kept.items t.claims.items t.lates.items tells.0 c.args.n.0 (or_second (open_in x) (owned_in x) c.requires)

@@ -4,14 +4,14 @@ use Rattle.std.proofs.lemmas.Option.{slice_get_read, slice_get_cases}
 use Rattle.mid_base.specs.declared.entries.Entry.{Entry}
 use Rattle.mid_base.specs.declared.host_spec.HostSpec.{HostSpec}
 use Rattle.command_table.specs.declared.commands.Commands.{Commands}
-use Rattle.command_table.specs.Follows.{Follows, IsNext}
+use Rattle.command_table.specs.CommandsAgree.{CommandsAgree, IsNext}
 use Rattle.command_table.proofs.Queries.{next_row, no_next, no_lane}
 use Rattle.command_table.proofs.commands.Commands.next_in.Goals as goal
 
 cursor_is : (xs ys : List ℕ) (i lane place : ℕ) → xs ≡ ys → i ≡ lane → i < length xs → place ≡ get_or xs i place → slice_get ys lane ≡ Some place
 cursor_is xs ys i lane place same at lt is = rw (← same, ← at) (slice_get_read xs (length xs) i place refl lt is)
 
-next_at : (s : HostSpec) (P : List Entry) (t : Commands) (lane place : ℕ) → Follows s P t → slice_get t.cursors.items lane ≡ Some place → lane < 64 → place < length t.rows.items → IsNext s P t lane place
+next_at : (s : HostSpec) (P : List Entry) (t : Commands) (lane place : ℕ) → CommandsAgree s P t → slice_get t.cursors.items lane ≡ Some place → lane < 64 → place < length t.rows.items → IsNext s P t lane place
 next_at s P t lane place f cursor lt within = elim (slice_get_cases t.rows.items place).1 as (λ _. IsNext s P t lane place) [
   | inl at ↦ next_row s P t f lane place at.0 cursor lt at.2
   | inr past ↦ absurd (omega (arith, past.0, within))

@@ -1,5 +1,5 @@
 use Rattle.std.proofs.Common.{◌∙◌, sym, ap, ◌||◌, not, Bool}
-use Rattle.device_table.specs.Keeps.{takes}
+use Rattle.device_table.specs.DevicesAgree.{takes}
 use Rattle.device_table.proofs.Depths.{goes_is}
 use Rattle.device_table.proofs.devices.Devices.goes.Goals as goal
 

@@ -1,14 +1,16 @@
-use Rattle.std.proofs.Common.{◌≡◌, ◌∙◌, sym, ap, subst, ℕ, ◌<◌, ◌^◌, List, length, inl, inr}
+use Rattle.std.proofs.Common.{◌≡◌, ◌∙◌, sym, ap, subst, refl, ℕ, ◌<◌, ◌^◌, true, not, List, length, Some, inl, inr}
 use Rattle.mid_base.specs.declared.entries.Entry.TheVariants as entry
 use Rattle.std.proofs.lemmas.Bool.{cases_Bool}
 use Rattle.attempt_table.specs.declared.rows.Row.{Row}
-use Rattle.attempt_table.specs.declared.rows.Phase.TheVariants.{Answered}
-use Rattle.attempt_table.specs.Rows.{row_of, wanting_in, wanting_at, in_row}
-use Rattle.attempt_table.proofs.Places.{moved_length}
+use Rattle.attempt_table.specs.Rows.{row_of, with_answer, open_in, answered_in, owned_in, live_in, wanting_in}
+use Rattle.attempt_table.proofs.Places.{rows_length}
 use Rattle.command_table.proofs.Entries.{follows_apart}
 use Rattle.device_table.proofs.Entries.{keeps_apart}
-use Rattle.host_state.specs.Runs.{AreUnderWay}
-use Rattle.host_state.proofs.Moving.{moves_under_way, wanting_lives}
+use Rattle.host_state.specs.HostAgrees.{AreUnderWay}
+use Rattle.host_state.proofs.Moving.{moves_under_way}
+use Rattle.host_state.proofs.Timed.{timed_apart}
+use Rattle.attempt_table.proofs.Bools.{and_first, or_first}
+use Rattle.failure_table.proofs.Agree.{agrees_apart}
 use Rattle.host_state.proofs.running.Running.answer.Goals as goal
 
 pub returns-clause-runs : goal.returns-clause-runs
@@ -23,9 +25,10 @@ returns-clause-runs c s P r =
     elim (cases_Bool wanting) as (λ _. (length c.answer.new.self.rows.items ≡ length rows) × AreUnderWay P c.answer.new.self.rows.items old.commands.rows.items) [
       | inl is ↦
           let moves = here.good is in
-          let lives = wanting_lives moves.row.phase (ap (in_row wanting_at) (sym moves.was) ∙ is) in (
-            moved_length n (Answered c.args.a) rows c.answer.new.self.rows.items moves,
-            moves_under_way P n (Answered c.args.a) rows c.answer.new.self.rows.items old.commands.rows.items moves lives r.under_way,
+          let opened : open_in (row_of n rows) ≡ true = and_first (open_in (row_of n rows)) (not (answered_in (row_of n rows))) is in
+          let lives : live_in (Some moves.row) ≡ true = sym (ap live_in moves.was) ∙ or_first (open_in (row_of n rows)) (owned_in (row_of n rows)) opened in (
+            rows_length n with_answer rows c.answer.new.self.rows.items moves,
+            moves_under_way P n with_answer rows c.answer.new.self.rows.items old.commands.rows.items moves (refl, refl, refl) lives r.under_way,
           )
       | inr isnt ↦ (ap length (here.late isnt), subst (λ (xs : List Row). AreUnderWay P xs old.commands.rows.items) (sym (here.late isnt)) r.under_way)
     ]
@@ -35,11 +38,14 @@ returns-clause-runs c s P r =
       attempts = here.tells s P r.attempts;
       commands = follows_apart s P old.commands came tt r.commands;
       devices = keeps_apart s P old.devices came tt r.devices;
+      timed = rw here.tags (timed_apart s P old.deadlines old.attempts.tags.items r.timed came tt);
       time = r.time;
       early = r.early;
       few = subst (λ (k : ℕ). k < 2 ^ 60) (sym rest.0) r.few;
-      recovery = r.recovery;
+      failures = agrees_apart s P old.failures came tt r.failures;
+      unaborted = r.unaborted;
       calm = r.calm;
+      by_answer = r.by_answer;
       under_way = rest.1;
       held_back = r.held_back;
     }

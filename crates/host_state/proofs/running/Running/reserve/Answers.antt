@@ -1,7 +1,7 @@
 use Rattle.std.proofs.Common.{sym, subst, ◌<◌, ◌^◌, List, length}
-use Rattle.host_state.proofs.Moving.{roomier}
+use Rattle.mid_base.specs.declared.answers.TagState.{TagState}
 use Rattle.attempt_table.specs.declared.rows.Row.{Row}
-use Rattle.host_state.specs.Runs.{AreUnderWay}
+use Rattle.host_state.specs.HostAgrees.{AreUnderWay, IsTimed}
 use Rattle.host_state.proofs.running.Running.reserve.Goals as goal
 
 pub returns-clause-same : goal.returns-clause-same
@@ -10,14 +10,17 @@ returns-clause-same c s P r =
     let same = c.reserve.ensures.same in
     record {
       limits = r.limits;
-      attempts = roomier s P old.attempts c.reserve.new.self same r.attempts;
+      attempts = c.reserve.ensures.tells s P r.attempts;
       commands = r.commands;
       devices = r.devices;
+      timed = subst (λ (xs : List TagState). IsTimed s P old.deadlines xs) (sym same.tags) r.timed;
       time = r.time;
       early = r.early;
       few = subst (λ (xs : List Row). length xs < 2 ^ 60) (sym same.rows) r.few;
-      recovery = r.recovery;
+      failures = r.failures;
+      unaborted = r.unaborted;
       calm = r.calm;
+      by_answer = r.by_answer;
       under_way = subst (λ (xs : List Row). AreUnderWay P xs old.commands.rows.items) (sym same.rows) r.under_way;
       held_back = r.held_back;
     }

@@ -6,6 +6,8 @@ use Rattle.attempt_table.proofs.Told.{tells_apart}
 use Rattle.device_table.proofs.Entries.{not_busy_took}
 use Rattle.host_state.proofs.Ties.{stands_at, command_stands, idle_under_way, unheld, same_ids, still_under_way}
 use Rattle.std.proofs.lemmas.Result.{on_ok_weaker, on_err_weaker}
+use Rattle.host_state.proofs.Timed.{timed_apart}
+use Rattle.host_state.proofs.Failing.{idle_took}
 use Rattle.host_state.proofs.running.Running.take.Goals as goal
 
 pub returns-clause-runs : goal.returns-clause-runs
@@ -19,13 +21,16 @@ returns-clause-runs c =
       attempts = tells_apart s P old.attempts (entry.Took id) tt r.attempts;
       commands = follows s P id is r.commands;
       devices = not_busy_took s P old.devices id idle r.devices;
+      timed = timed_apart s P old.deadlines old.attempts.tags.items r.timed (entry.Took id) tt;
       time = r.time;
       early = r.early;
       few = r.few;
-      recovery = r.recovery;
+      failures = idle_took s P old.failures id idle r.failures;
+      unaborted = r.unaborted;
       calm = r.calm;
+      by_answer = r.by_answer;
       under_way =
-          idle_under_way P (entry.Took id ∷ P) old.attempts.rows.items old.commands.rows.items c.take.new.self.rows.items id.0 Waits idle (λ d. refl)
+          idle_under_way P (entry.Took id ∷ P) old.attempts.rows.items old.commands.rows.items c.take.new.self.rows.items id.0 Waits idle (λ d. refl) (λ d. refl)
           (same_ids s P (entry.Took id ∷ P) old.commands c.take.new.self r.commands (follows s P id is r.commands)) r.under_way;
       held_back = unheld s P (entry.Took id ∷ P) id.0 Waits refl (λ d. refl) (λ u. refl) (λ n. refl) r.held_back;
     }) c.take.ensures.follows
@@ -38,11 +43,14 @@ returns-clause-same c =
       attempts = r.attempts;
       commands = same s P r.commands;
       devices = r.devices;
+      timed = r.timed;
       time = r.time;
       early = r.early;
       few = r.few;
-      recovery = r.recovery;
+      failures = r.failures;
+      unaborted = r.unaborted;
       calm = r.calm;
+      by_answer = r.by_answer;
       under_way = still_under_way s P old.attempts.rows.items old.commands c.take.new.self r.commands (same s P r.commands) r.under_way;
       held_back = r.held_back;
     }) c.take.ensures.same

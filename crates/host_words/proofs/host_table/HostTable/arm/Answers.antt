@@ -1,4 +1,5 @@
-use Rattle.std.proofs.Common.{rules, ap, ◌∙◌, sym, refl}
+use Rattle.std.proofs.Common.{rules, ◌+◌, ap, ◌∙◌, sym, refl}
+use Rattle.atomic_table.specs.Seated.{TableId}
 use Rattle.host_words.specs.Carried.{carried}
 use Rattle.host_words.specs.Views.{turn_of}
 use Rattle.host_words.proofs.Owning.{from_slice}
@@ -15,4 +16,5 @@ invariant_of-seat g c =
     record {
       carries = c.swap.ensures.2.0 ∙ (c.args.seat.now.carries ∙ (ap carried is.1 ∙ sym (ap carried (ap (λ v. v.stage) known))));
       has_share = λ e. c.args.seat.now.has_share (sym (ap (λ v. v.share) known) ∙ e);
+      fits_table = ap (λ v. v.tags + 2) known ∙ (c.args.seat.now.fits_table ∙ sym (ap (λ (i : TableId). i.words) c.swap.ensures.0));
     }

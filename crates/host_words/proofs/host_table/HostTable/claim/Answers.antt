@@ -1,4 +1,5 @@
-use Rattle.std.proofs.Common.{rules, ◌≡◌, ◌≢◌, refl, sym, ap, ◌∙◌}
+use Rattle.std.proofs.Common.{rules, ◌≡◌, ◌≢◌, ◌+◌, refl, sym, ap, ◌∙◌}
+use Rattle.atomic_table.specs.Seated.{TableId}
 use Rattle.host_words.specs.Carried.{carried}
 use Rattle.host_words.specs.Words.{code}
 use Rattle.host_words.specs.declared.words.WordSeen.TheVariants.{Armed}
@@ -27,4 +28,10 @@ invariant_of-seat g c =
     record {
       carries = c.compare_exchange-met.ensures.2.0 ∙ (c.args.seat.now.carries ∙ sym (ap carried kept.0));
       has_share = λ e. c.args.seat.now.has_share (sym kept.1 ∙ e);
+      fits_table = ap (λ n. n + 2) kept.2 ∙ (c.args.seat.now.fits_table ∙ sym (ap (λ (i : TableId). i.words) c.compare_exchange-met.ensures.0));
     }
+
+pub returns-then-met-armed-clause-owned : goal.returns-then-met-armed-clause-owned
+returns-then-met-armed-clause-owned g c b h =
+    let x = c.compare_exchange-met.ensures.2.1 c.args.t.0 c.args.n c.args.by refl c.armed_number-armed.ensures c.claimed_number-claimed.ensures in
+    x.2.2 b h (code_same x.0 (Armed c.args.n) (sym x.1 ∙ (c.if-met-armed.true ∙ c.armed_number-armed.ensures)))

@@ -1,4 +1,5 @@
-use Rattle.std.proofs.Common.{rules, ap, ◌≡◌, ◌∙◌, sym, []}
+use Rattle.std.proofs.Common.{rules, ◌+◌, ap, ◌≡◌, ◌∙◌, sym, []}
+use Rattle.atomic_table.specs.Seated.{TableId}
 use Rattle.host_words.specs.Carried.{carried}
 use Rattle.host_words.specs.Views.{turn_of}
 use Rattle.host_words.proofs.Turning.{seals, ends}
@@ -17,4 +18,10 @@ invariant_of-seat g c =
     let ended = c.fetch_add.ensures.2.1 is.0 (turn_of c.args.seat.now.seat.me.0.stage) _ (ap (λ v. v.stage) sealed) in
     let share : c.fetch_add.new.seat.me.0.share ≡ c.args.seat.now.seat.me.0.share = ap (λ v. v.share) ended ∙ (ap (λ v. v.share) sealed ∙ ap (λ m. m.0.share) c.exchange-old.ensures.3) in
     let empty : c.fetch_add.new.seat.me.1 ≡ [] = search rules in
-    record { carries = empty ∙ sym (ap carried (ap (λ v. v.stage) ended)); has_share = λ e. c.args.seat.now.has_share (sym share ∙ e) }
+    let tags : c.fetch_add.new.seat.me.0.tags ≡ c.args.seat.now.seat.me.0.tags = ap (λ v. v.tags) ended ∙ (ap (λ v. v.tags) sealed ∙ ap (λ m. m.0.tags) c.exchange-old.ensures.3) in
+    let same : c.fetch_add.new.seat.table_id ≡ c.args.seat.now.seat.table_id = search rules in
+    record {
+      carries = empty ∙ sym (ap carried (ap (λ v. v.stage) ended));
+      has_share = λ e. c.args.seat.now.has_share (sym share ∙ e);
+      fits_table = ap (λ n. n + 2) tags ∙ (c.args.seat.now.fits_table ∙ sym (ap (λ (i : TableId). i.words) same));
+    }

@@ -15,14 +15,14 @@ invariant_of-self-2 g c =
     let before = c.self.inside.before in
     let P = reverse c.self.inside.book.entries in
     let n = c.args.n in
-    let row = c.in-Some.row in
-    let a = c.in-Owned.a in
+    let row = c.in-Some.owned.row in
+    let a = c.in-Some.owned.answer in
     let d = c.judge-disposition.result in
     let follow = follow_of row.command n a d in
     let silent = laws.silent c.self.inside.lower spec before in
     rw (back2 c.self.inside.book.entries _ _ _ (Judged row.command n d) c.in_ok-follows.follows c.in_ok-reserve.ensures.entries c.push.ensures.entries c.push-2.ensures.entries, c.in_ok-follows.ensures.entry)
     (core_grows _ _ _ _ _ P (Judged row.command n d ∷ follow ∷ []) _ _ core
-    (group_judged spec P c.self.inside.running core.runs n row a (sym c.attempt.ensures ∙ c.in-Some.is) d c.in-Owned.is (c.judge-disposition.ensures.disp P core.runs))
+    (group_judged spec P c.self.inside.running core.runs n row a (c.in-Some.ensures spec P core.runs) d (c.judge-disposition.ensures.disp P core.runs))
     (silent (Judged row.command n d ∷ P) follow (follow_silent spec row.command n a d) (silent P (Judged row.command n d) tt core.stood))
     (c.in_ok-follows.ensures.runs spec P core.runs))
 
@@ -33,20 +33,20 @@ returns g c =
     let P = reverse c.self.inside.book.entries in
     let r = c.self.inside.running in
     let n = c.args.n in
-    let row = c.in-Some.row in
-    let a = c.in-Owned.a in
+    let row = c.in-Some.owned.row in
+    let a = c.in-Some.owned.answer in
     let d = c.judge-disposition.result in
     let follow = follow_of row.command n a d in
-    let there = sym c.attempt.ensures ∙ c.in-Some.is in
+    let owned = c.in-Some.ensures spec P core.runs in
     rw (← c.self.view_is) (record {
       spec = refl;
       before = refl;
       group = Judged row.command n d ∷ follow ∷ [];
       journal = added2 c.self.inside.book.entries _ _ _ (Judged row.command n d) follow c.in_ok-reserve.ensures.entries c.push.ensures.entries (rw c.in_ok-follows.ensures.entry at c.push-2.ensures.entries);
       adds = record {
-        opened = opens_judged spec P r core.runs n row a there d;
-        added = group_judged spec P r core.runs n row a there d c.in-Owned.is (c.judge-disposition.ensures.disp P core.runs);
-        free = nothing_bars_settling spec P r core.runs n row a there (g.A.HostTemplate.is_due c.self.inside.lower (ticks P)) c.in-Owned.is;
+        opened = opens_judged spec P r core.runs n row a owned d;
+        added = group_judged spec P r core.runs n row a owned d (c.judge-disposition.ensures.disp P core.runs);
+        free = nothing_bars_settling spec P r core.runs n row a owned (g.A.HostTemplate.is_due c.self.inside.lower (ticks P));
       };
       enters = follow_enters row.command row.command n n a d d;
       tags = (row.tag.0, ByAnswer, c.in_ok-follows.ensures.shown.0, c.in_ok-follows.ensures.shown.1);

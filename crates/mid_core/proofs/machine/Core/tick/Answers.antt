@@ -1,8 +1,10 @@
 use Rattle.std.proofs.Common.{reverse, ap, ◌∙◌, sym, refl, [], ◌∷◌, false, ◌≡◌, ◌<◌, arith}
 use Rattle.mid_base.specs.declared.entries.Entry.TheVariants.{Tick}
 use Rattle.mid_base.specs.Past.{ticks}
-use Rattle.trace_model.specs.Steps.{most}
-use Rattle.mid_core.proofs.Groups.{group_tick, nothing_bars_a_tick}
+use Rattle.trace_model.specs.Attempts.{attempts}
+use Rattle.trace_model.specs.Time.{is_expired}
+use Rattle.mid_base.specs.Limits.{last_number}
+use Rattle.mid_core.proofs.Groups.{group_tick, nothing_bars_a_tick, none_expired}
 use Rattle.mid_core.proofs.Growing.{core_grows, added, back}
 use Rattle.mid_core.proofs.machine.Core.tick.Goals as goal
 
@@ -19,7 +21,7 @@ invariant_of-self-2 g c =
     (core_grows _ _ _ _ _ P (Tick ∷ []) _ _ core
     (group_tick spec P (c.has_answer_waiting.ensures spec P core.runs ∙ c.if-has_answer_waiting.false) (c.has_expired.ensures spec P core.runs ∙ c.if-has_expired.false))
     (laws.quiet_tick c.self.inside.lower spec c.self.inside.before P idle core.stood)
-    (c.tick.ensures.runs spec P core.runs))
+    (c.tick.ensures.runs spec P (none_expired P (attempts P) (is_expired spec P) (c.has_expired.ensures spec P core.runs ∙ c.if-has_expired.false)) core.runs))
 
 pub returns-clause-answer : goal.returns-clause-answer
 returns-clause-answer g c =
@@ -31,7 +33,7 @@ returns-clause-answer g c =
     in
     let unclaimed = c.has_answer_waiting.ensures spec P core.runs ∙ c.if-has_answer_waiting.false in
     let unexpired = c.has_expired.ensures spec P core.runs ∙ c.if-has_expired.false in
-    let early : ticks P < most = omega (arith, core.runs.time, c.now-now.ensures) in
+    let early : ticks P < last_number = omega (arith, core.runs.time, c.now-now.ensures) in
     rw (← c.self.view_is) (record {
       spec = refl;
       before = refl;

@@ -1,8 +1,8 @@
 use Rattle.std.proofs.Common.{List, reverse, sym, subst}
 use Rattle.std.proofs.lemmas.List.{reverse-reverse}
 use Rattle.mid_base.specs.declared.entries.Entry.{Entry}
-use Rattle.trace_model.specs.Headline.{Headline}
-use Rattle.trace_model.proofs.Heads.{headline}
+use Rattle.journal_laws.specs.Headline.{Headline}
+use Rattle.journal_laws.proofs.Heads.{headline}
 use Rattle.host_template.specs.Standing.{Before}
 use Rattle.debug_adapter.specs.LowerRun.{LowerRun}
 use Rattle.play_top.specs.Played.{HostRun, IsRun}

@@ -1,0 +1,103 @@
+"""The scripts of the bench, with all their step lines. Run with a folder, it writes them there."""
+import os
+import sys
+
+MOST_COMMANDS = 65_536
+
+
+def unit(i):
+    return f"0:{i // 16}:{i % 16}"
+
+
+def hosts(units, canq, depth, faults):
+    """A host with its units and, of the units in turn, planned faults that hit no call that is made."""
+    yield f"host 0 {canq} adtbh"
+    for i in range(units):
+        yield f"lun 0 {unit(i)} 65536 {depth}"
+    for i in range(faults):
+        yield f"plan 0 {unit(i % units)} latency 65535 1 1 5"
+
+
+def reads(i):
+    return f"2800{8 * i % 65536:08x}00000800"
+
+
+def writes(i):
+    return f"2a00{8 * i % 65536:08x}00000800 {i % 256:02x}"
+
+
+def commands(count, units, block):
+    """READ(10) or WRITE(10) of eight blocks, of all units in turn, in four lanes in turn."""
+    for i in range(1, count + 1):
+        yield f"cmd {i} 0 {i % 4} {unit(i % units)} 30 5 - {block(i)}"
+
+
+def round_trip(numbers, spare):
+    """These attempts are sent, answered, owned and settled. So many sends more than that are tried, which are skipped."""
+    for _ in range(len(numbers) + spare):
+        yield "step 0 send"
+    yield "step 0 tick"
+    for _ in numbers:
+        yield "step 0 work"
+    for n in numbers:
+        yield f"step 0 own {n} answer"
+    for n in numbers:
+        yield f"step 0 settle {n}"
+
+
+def script(count, units=4, at_once=32, depth=16, faults=0, block=reads):
+    """So many commands are under way at a time."""
+    yield from hosts(units, 2 * at_once, depth, faults)
+    yield from commands(count, units, block)
+    for first in range(1, count + 1, at_once):
+        numbers = range(first, min(first + at_once, count + 1))
+        for n in numbers:
+            yield f"step 0 submit {n % 4}"
+        yield from round_trip(numbers, 0)
+    yield "end stop"
+
+
+def skipping(count, units=256):
+    """Each unit takes one command at once. Two for each are handed in, and the sends that meet only full units are skipped."""
+    yield from hosts(units, 1024, 1, 0)
+    yield from commands(count, units, reads)
+    for first in range(1, count + 1, 2 * units):
+        numbers = range(first, min(first + 2 * units, count + 1))
+        for n in numbers:
+            yield f"step 0 submit {n % 4}"
+        yield from round_trip(numbers[:units], len(numbers[units:]))
+        yield from round_trip(numbers[units:], 0)
+    yield "end stop"
+
+
+# The name of each script, how many commands it has, and its lines.
+SCRIPTS = [
+    ("2,000 commands", 2_000, lambda: script(2_000)),
+    ("20,000 commands", 20_000, lambda: script(20_000)),
+    ("65,536 commands", MOST_COMMANDS, lambda: script(MOST_COMMANDS)),
+    ("20,000 writes", 20_000, lambda: script(20_000, block=writes)),
+    ("512 under way", 20_000, lambda: script(20_000, at_once=512, depth=128)),
+    ("256 units", 20_000, lambda: script(20_000, units=256, at_once=512)),
+    ("a third of the sends skipped", 20_000, lambda: skipping(20_000)),
+    ("20,000 planned faults", 20_000, lambda: script(20_000, faults=20_000)),
+    ("60,000 faults of a unit", 20_000, lambda: script(20_000, units=1, depth=32, faults=60_000)),
+]
+
+
+def write_all(folder):
+    """Writes each script to a file, and gives its name, its path and how many commands it has."""
+    written = []
+    for name, count, lines in SCRIPTS:
+        path = os.path.join(folder, name.replace(" ", "-").replace(",", "") + ".script")
+        with open(path, "w") as file:
+            file.writelines(line + "\n" for line in lines())
+        written.append((name, path, count))
+    return written
+
+
+if __name__ == "__main__":
+    if len(sys.argv) != 2:
+        sys.exit("usage: scripts.py FOLDER")
+    os.makedirs(sys.argv[1], exist_ok=True)
+    for _, path, _ in write_all(sys.argv[1]):
+        print(path)

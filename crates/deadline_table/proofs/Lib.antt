@@ -1,0 +1,4 @@
+pub mod Bools
+pub mod Changes
+pub mod Entries
+pub mod Queries

@@ -1,0 +1,9 @@
+use Rattle.std.proofs.Common.{◌≡◌, ◌≤◌, ◌+◌, ◌-◌, ◌++◌, take, length, vec_len, vec_capacity}
+use Rattle.escalation.specs.Acts.{cleared}
+use Rattle.escalation.proofs.testing.clear.Given as goal
+
+abbrev pub invariant-loop-x : goal.invariant-loop-x
+invariant-loop-x l = record {
+  items : l.entries.items ≡ l.fn.entries.items ++ cleared l.level (take l.x-index l.todo);
+  room : vec_len l.entries + (length l.todo - l.x-index) ≤ vec_capacity l.entries;
+}

@@ -1,0 +1,3 @@
+pub mod Rungs
+pub mod Climbing
+pub mod Acts

@@ -1,4 +1,0 @@
-use Rattle.host_tests.proofs.callers.released.Goals as goal
-
-pub returns : goal.returns
-returns c = c.release.ensures c.args.n c.args.by c.requires.shown

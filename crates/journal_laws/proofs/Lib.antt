@@ -1,0 +1,14 @@
+pub mod Staying
+pub mod Ways
+pub mod Numbered
+pub mod Resting
+pub mod Verdicts
+pub mod Known
+pub mod GoodStays
+pub mod InTime
+pub mod Blind
+pub mod Wanted
+pub mod Alike
+pub mod Parts
+pub mod Erased
+pub mod Heads

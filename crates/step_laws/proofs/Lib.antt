@@ -1,0 +1,12 @@
+pub mod Causes
+pub mod Places
+pub mod Sends
+pub mod Simple
+pub mod Rests
+pub mod Settles
+pub mod Clears
+pub mod Flushes
+pub mod Ladders
+pub mod Acts
+pub mod Numbers
+pub mod All

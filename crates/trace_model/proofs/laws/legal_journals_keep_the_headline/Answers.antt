@@ -1,5 +1,0 @@
-use Rattle.trace_model.proofs.Heads.{headline}
-use Rattle.trace_model.proofs.laws.legal_journals_keep_the_headline.Goals as goal
-
-pub returns : goal.returns
-returns c = λ s journal legal. headline s journal legal
