@@ -1,9 +1,9 @@
 -- Numbers that count down, and how often one stands in a list.
 use Rattle.std.proofs.Common.{◌≡◌, ◌≢◌, ℕ, zero, suc, pred, ◌+◌, ◌<◌, ◌≤◌, ◌==◌, Bool, true, false, cond, List, [], ◌∷◌, ◌++◌, length, get_or, take, drop, refl, sym, ap, ◌∙◌, arith, add-one, inl, inr}
-use Rattle.std.proofs.lemmas.Bool.{cases_Bool, eqb-true, ne_eqb, eq-eqb, ltb-false, le-ltb}
+use Rattle.std.proofs.lemmas.Bool.{cases_Bool, eqb-true, ne_eqb, eq-eqb, ltb-false, le-ltb, lt-ltb}
 use Rattle.attempt_table.specs.AttemptsAgree.{countdown, times}
-use Rattle.std.specs.Prelude.{All, Contains, remove, nat_lt}
-use Rattle.std.specs.List.{position, position_or_len}
+use Rattle.std.specs.Prelude.{All, Contains, remove, nat_lt, ◌||◌}
+use Rattle.std.specs.List.{list_any, position, position_or_len}
 use Rattle.std.proofs.lemmas.List.Quantifiers.{position-Some}
 use Rattle.std.proofs.Common.{subst, Option, Some, None}
 
@@ -92,3 +92,12 @@ times_where_none n m ms at = elim (cases_Bool (nat_lt (position_or_len (λ x. x 
   | inl is ↦ let some : ◌≡◌ {A = Option ℕ} (Some (position_or_len (λ x. x == n) ms)) None = rw is at at in cc
   | inr isnt ↦ times_absent n m ms (times_of_none n ms isnt)
 ]
+
+-- a number stands in a list where one of the list is it
+pub times_any : (n : ℕ) (ms : List ℕ) → nat_lt 0 (times n ms) ≡ list_any (λ (m : ℕ). m == n) ms
+times_any n [] = refl
+times_any n (m ∷ ms) = by_test (m == n) (times n ms) _ (times_any n ms)
+  where
+    by_test : (b : Bool) (k : ℕ) (r : Bool) → nat_lt 0 k ≡ r → nat_lt 0 (cond b (k + 1) k) ≡ b || r
+    by_test true k r h = lt-ltb 0 (k + 1) (omega arith)
+    by_test false k r h = h

@@ -186,4 +186,11 @@ impl Attempts {
     {
         !self.lates.is_empty()
     }
+
+    /// Whether an answer of this attempt is to be ignored.
+    pub fn is_late(&self, n: Attempt) -> bool
+        ensures { (s : SpecSeen) (P : List EntrySeen) → AttemptsAgree s P self.now → nat_lt 0 (late n.0 P) ≡ result }
+    {
+        self.lates.iter().any(|late| *late == n.0)
+    }
 }

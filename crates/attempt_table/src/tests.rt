@@ -276,6 +276,14 @@ fn the_least_late_answer_comes_first(rt: HostRuntime) -> Result<(), Fail> {
 }
 
 #[test]
+fn the_attempts_of_late_answers_are_told(rt: HostRuntime) -> Result<(), Fail> {
+    let attempts = after(rt.alloc(), &[Call::Answer(7, 70), Call::Answer(2, 20)])?;
+    let late = [2, 7].map(|n| attempts.is_late(Attempt(n)));
+    assert_eq!(rt; late, [false, true]);
+    Ok(())
+}
+
+#[test]
 fn one_late_answer_of_two_is_dropped(rt: HostRuntime) -> Result<(), Fail> {
     let calls = [Call::Answer(7, 70), Call::Answer(7, 71), Call::DropLate(7)];
     let attempts = after(rt.alloc(), &calls)?;

@@ -1,28 +1,22 @@
 -- What the table of failures needs of the others.
-use Rattle.std.proofs.Common.{◌≡◌, ◌∙◌, sym, ap, refl, ℕ, ◌+◌, ◌<◌, ◌==◌, Bool, true, false, List, ◌∷◌, Some, length, arith}
-use Rattle.std.proofs.lemmas.Bool.{eq-eqb}
+use Rattle.std.proofs.Common.{◌≡◌, ◌∙◌, sym, ap, ℕ, ◌+◌, ◌<◌, ◌==◌, true, false, List, ◌∷◌, Some, length, arith, inl, inr}
+use Rattle.std.proofs.lemmas.Bool.{cases_Bool, eq-eqb, false≢true}
 use Rattle.mid_base.specs.declared.answers.Answer.{Answer}
 use Rattle.mid_base.specs.declared.entries.Entry.{Entry}
 use Rattle.mid_base.specs.declared.entries.Entry.TheVariants as entry
 use Rattle.mid_base.specs.declared.host_spec.HostSpec.{HostSpec}
-use Rattle.mid_base.specs.declared.names.Attempt.{Attempt}
 use Rattle.mid_base.specs.declared.names.CmdId.{CmdId}
-use Rattle.mid_base.specs.declared.names.Tag.{Tag}
-use Rattle.trace_model.specs.declared.standing.Standing.TheVariants.{Waits}
 use Rattle.trace_model.specs.Commands.{standing, is_busy}
 use Rattle.trace_model.specs.Counts.{busy_count}
 use Rattle.command_table.specs.declared.commands.Commands.{Commands}
 use Rattle.command_table.specs.Rows.{id_at}
 use Rattle.command_table.specs.CommandsAgree.{CommandsAgree}
 use Rattle.failure_table.specs.declared.failures.Failures.{Failures}
-use Rattle.failure_table.specs.FailuresAgree.{FailuresAgree, CanSend, CanFail, knows, is_out, is_aborting, once_if}
+use Rattle.failure_table.specs.FailuresAgree.{FailuresAgree, CanSend, CanSchedule, CanFail, knows, is_out, is_aborting, once_if}
 use Rattle.failure_table.proofs.Lists.{queued_is}
-use Rattle.failure_table.proofs.Entries.{says_took, says_told_idle, out_parts, out_from}
+use Rattle.failure_table.proofs.Entries.{says_took, says_told_idle, out_parts}
 use Rattle.failure_table.proofs.Queries.{out_leaves_room}
-use Rattle.host_state.specs.declared.running.Running.{Running}
-use Rattle.host_state.specs.HostAgrees.{HostAgrees}
 use Rattle.host_state.proofs.Ties.{any_at, spec_at}
-use Rattle.host_state.proofs.Settled.{none_aborts}
 
 pub idle_took : (s : HostSpec) (P : List Entry) (t : Failures) (c : CmdId) → is_busy (standing c.0 P) ≡ false → FailuresAgree s P t → FailuresAgree s (entry.Took c ∷ P) t
 idle_took s P t c idle run = record {
@@ -65,9 +59,15 @@ id_known s P t f i c is =
     let there = spec_at s P t f i c is in
     any_at (λ k. k.id.0 == c.0) s.cmds i there.0 there.1 (eq-eqb there.0.id.0 c.0 (ap (λ (x : CmdId). x.0) there.2))
 
--- a command that waited is out once it is sent
-pub sent_is_out : (s : HostSpec) (P : List Entry) (r : Running) → HostAgrees s P r → (c : CmdId) (n : Attempt) (t : Tag) → standing c.0 P ≡ Waits → is_out c.0 (entry.Sent c n t ∷ P) ≡ true
-sent_is_out s P r runs c n t waiting =
-    let same : (c.0 == c.0) ≡ true = eq-eqb c.0 c.0 refl in
-    let unaborted = none_aborts s P r runs c.0 in
-    rw (same, unaborted) refl
+-- a command that isn't busy isn't to be aborted
+pub idle_unaborted : (s : HostSpec) (P : List Entry) (t : Failures) → FailuresAgree s P t → (c : ℕ) → is_busy (standing c P) ≡ false → is_aborting c P ≡ false
+idle_unaborted s P t run c idle = elim (cases_Bool (is_aborting c P)) [
+  | inl is ↦ absurd (false≢true (sym idle ∙ (run.says.waiting_are c is).0))
+  | inr isnt ↦ isnt
+]
+
+-- the abort of a command that is out can be scheduled
+pub room_to_schedule : (s : HostSpec) (P : List Entry) (t : Failures) → FailuresAgree s P t → (c : ℕ) → knows s c ≡ true → is_out c P ≡ true → CanSchedule t
+room_to_schedule s P t run c known out =
+    let room = out_leaves_room s P t.queue.failed t.queue.busy t.work.waiting run.says c known out in
+    omega (arith, room, run.few, run.aborts_most)

@@ -22,7 +22,9 @@ use Rattle.mid_base.specs.declared.host_spec.HostSpec.{HostSpec}
 use Rattle.mid_base.specs.Past.{sent_for, was_sent}
 use Rattle.trace_model.specs.declared.standing.Standing.{Standing}
 use Rattle.trace_model.specs.declared.standing.Standing.TheVariants.{Waits, Busy}
-use Rattle.trace_model.specs.Commands.{standing, holds, is_busy, failed_since_sent, is_failed}
+use Rattle.trace_model.specs.Commands.{standing, holds, is_busy, failed_since_sent}
+use Rattle.failure_table.specs.FailuresAgree.{is_out, is_aborting}
+use Rattle.failure_table.proofs.Entries.{sent_is_out as says_sent_is_out}
 use Rattle.trace_model.specs.Sending.{is_held, is_least_free, is_ready, all_below}
 use Rattle.trace_model.specs.Tags.{sent_with, tag_state}
 use Rattle.attempt_table.specs.declared.rows.Row.{Row}
@@ -33,7 +35,6 @@ use Rattle.attempt_table.proofs.Shown.{last_was_sent}
 use Rattle.attempt_table.proofs.Told.{armed_is_live}
 use Rattle.command_table.specs.declared.rows.CommandRow.{CommandRow}
 use Rattle.command_table.specs.declared.commands.Commands.{Commands}
-use Rattle.command_table.specs.Rows.{id_at}
 use Rattle.command_table.specs.CommandsAgree.{CommandsAgree}
 use Rattle.trace_model.specs.Devices.{is_online}
 use Rattle.mid_base.specs.declared.names.DevAddr.{DevAddr}
@@ -41,9 +42,12 @@ use Rattle.device_table.specs.declared.rows.DeviceRow.{DeviceRow}
 use Rattle.device_table.specs.DevicesAgree.{takes, goes, goes_in, IsOf}
 use Rattle.device_table.proofs.Depths.{goes_is, takes_is}
 use Rattle.host_state.specs.declared.running.Running.{Running}
-use Rattle.host_state.specs.HostAgrees.{HostAgrees, AreUnderWay, AreHeld}
+use Rattle.host_state.specs.HostAgrees.{HostAgrees, AreUnderWay, AreAborting, AreHeld}
 use Rattle.host_state.specs.Picks.{CanSend}
-use Rattle.host_state.proofs.Ties.{any_at, busy_at, of_device, of_device_at, failed_alike}
+use Rattle.host_state.proofs.Failing.{idle_unaborted}
+use Rattle.host_state.proofs.Kept.{AreKept, kept_same, aborting_apart}
+use Rattle.host_state.proofs.Settled.{unscheduled}
+use Rattle.host_state.proofs.Ties.{any_at, busy_at, of_device, of_device_at, out_alike}
 use Rattle.host_state.proofs.Moving.{both_true}
 
 -- the tag of a busy command is held
@@ -139,36 +143,39 @@ module _ (s : HostSpec) (P : List Entry) (r : Running) (runs : HostAgrees s P r)
             subst (λ (v : ℕ). v < s.can_queue) tags within,
           )
 
-  -- a command that is sent now hasn't failed, and others have where they had
-  just_sent : (d : ℕ) → (c.0 == d) ≡ true → is_failed d (Sent c n t ∷ P) ≡ false
-  just_sent d is = rw is refl
+  -- no command that waits is to be aborted
+  unaborted : is_aborting c.0 P ≡ false
+  unaborted = idle_unaborted s P r.failures runs.failures c.0 (ap is_busy waiting)
 
-  sent_apart : (d : ℕ) → (c.0 == d) ≡ false → failed_since_sent d (Sent c n t ∷ P) ≡ failed_since_sent d P
-  sent_apart d isnt = rw isnt refl
+  -- a command that is sent now is out, and others are where they were
+  just_sent : (d : ℕ) → c.0 ≡ d → is_out d (Sent c n t ∷ P) ≡ true
+  just_sent d e = subst (λ (k : ℕ). is_out k (Sent c n t ∷ P) ≡ true) e (says_sent_is_out s P r.failures.queue.failed r.failures.queue.busy r.failures.work.waiting runs.failures.says c (ap is_busy waiting) n t)
+
+  sent_apart : (d : ℕ) → (c.0 == d) ≡ false → is_out d (Sent c n t ∷ P) ≡ is_out d P
+  sent_apart d isnt = out_alike d P (Sent c n t ∷ P) (stands_old d isnt) (ap (λ (b : Bool). cond b false (failed_since_sent d P)) isnt) refl
 
   -- what is under way, with one attempt more
-  pub sent_under_way : (row : Row) (attempts : List Row) (new : List CommandRow) → attempts ≡ r.attempts.rows.items ++ row ∷ [] → row.command ≡ c → row.tag ≡ t
-      → id_at row.place r.commands.rows.items ≡ Some c → ((i : ℕ) → id_at i new ≡ id_at i r.commands.rows.items) → AreUnderWay (Sent c n t ∷ P) attempts new
-  sent_under_way row attempts new rows command tag_is place ids =
-      rw rows (λ k x at lives. elim (cases_Bool (k == n.0)) as (λ _. (standing x.command.0 (Sent c n t ∷ P) ≡ Busy (record { 0 = k }) x.tag) × (id_at x.place new ≡ Some x.command) × (is_failed x.command.0 (Sent c n t ∷ P) ≡ false)) [
+  pub sent_under_way : (row : Row) (attempts : List Row) → attempts ≡ r.attempts.rows.items ++ row ∷ [] → row.command ≡ c → row.tag ≡ t → AreUnderWay (Sent c n t ∷ P) attempts
+  sent_under_way row attempts rows command tag_is =
+      rw rows (λ k x at lives. elim (cases_Bool (k == n.0)) as (λ _. (standing x.command.0 (Sent c n t ∷ P) ≡ Busy (record { 0 = k }) x.tag) × (is_out x.command.0 (Sent c n t ∷ P) ≡ true)) [
         | inl is ↦
             let here : k ≡ n.0 = eqb-true k n.0 is in
-            let now : row ≡ x = same_Some row x (sym (row_last r.attempts.rows.items row k (here ∙ number)) ∙ at) in (
-              stands_new x.command.0 (eq-eqb c.0 x.command.0 (ap (λ (y : CmdId). y.0) (sym command) ∙ ap (λ (y : Row). y.command.0) now))
+            let now : row ≡ x = same_Some row x (sym (row_last r.attempts.rows.items row k (here ∙ number)) ∙ at) in
+            let mine : c.0 ≡ x.command.0 = ap (λ (y : CmdId). y.0) (sym command) ∙ ap (λ (y : Row). y.command.0) now in (
+              stands_new x.command.0 (eq-eqb c.0 x.command.0 mine)
                   ∙ ap (λ (j : ℕ). Busy (record { 0 = j }) t) (sym here) ∙ ap (Busy (record { 0 = k })) (sym tag_is ∙ ap (λ (y : Row). y.tag) now),
-              ids x.place ∙ ap (λ (y : Row). id_at y.place r.commands.rows.items) (sym now) ∙ place ∙ ap Some (sym command) ∙ ap (λ (y : Row). Some y.command) now,
-              just_sent x.command.0 (eq-eqb c.0 x.command.0 (ap (λ (y : CmdId). y.0) (sym command) ∙ ap (λ (y : Row). y.command.0) now)),
+              just_sent x.command.0 mine,
             )
         | inr isnt ↦
             let before = runs.under_way k x (sym (row_front r.attempts.rows.items row k (λ e. false≢true (sym isnt ∙ eq-eqb k n.0 (e ∙ sym number)))) ∙ at) lives in
             let far = apart x.command.0 (record { 0 = k }) x.tag before.0 in
-            (stands_old x.command.0 far ∙ before.0, ids x.place ∙ before.1, failed_alike x.command.0 P (Sent c n t ∷ P) (stands_old x.command.0 far) (sent_apart x.command.0 far) ∙ before.2)
+            (stands_old x.command.0 far ∙ before.0, sent_apart x.command.0 far ∙ before.1)
       ])
 
   -- what is under way where that attempt was turned away at once
   pub bounced_under_way : (row : Row) (sent bounced : List Row) (why : BusyOf) → sent ≡ r.attempts.rows.items ++ row ∷ [] → row.owner ≡ None → Becomes n.0 turned_away sent bounced
-      → AreUnderWay (Bounced c n why ∷ Sent c n t ∷ P) bounced r.commands.rows.items
-  bounced_under_way row sent bounced why rows unowned moves k x at lives = elim (cases_Bool (k == n.0)) as (λ _. (standing x.command.0 (Bounced c n why ∷ Sent c n t ∷ P) ≡ Busy (record { 0 = k }) x.tag) × (id_at x.place r.commands.rows.items ≡ Some x.command) × (is_failed x.command.0 (Bounced c n why ∷ Sent c n t ∷ P) ≡ false)) [
+      → AreUnderWay (Bounced c n why ∷ Sent c n t ∷ P) bounced
+  bounced_under_way row sent bounced why rows unowned moves k x at lives = elim (cases_Bool (k == n.0)) as (λ _. (standing x.command.0 (Bounced c n why ∷ Sent c n t ∷ P) ≡ Busy (record { 0 = k }) x.tag) × (is_out x.command.0 (Bounced c n why ∷ Sent c n t ∷ P) ≡ true)) [
     | inl is ↦
         let here : k ≡ n.0 = eqb-true k n.0 is in
         let now : turned_away moves.row ≡ x =
@@ -183,8 +190,8 @@ module _ (s : HostSpec) (P : List Entry) (r : Running) (runs : HostAgrees s P r)
         in
         let before = runs.under_way k x was lives in
         let far = apart x.command.0 (record { 0 = k }) x.tag before.0 in
-        let stands = ap (λ (b : Bool). cond b Waits (standing x.command.0 (Sent c n t ∷ P))) far ∙ stands_old x.command.0 far in
-        (stands ∙ before.0, before.1, failed_alike x.command.0 P (Bounced c n why ∷ Sent c n t ∷ P) stands (sent_apart x.command.0 far) ∙ before.2)
+        let stands : standing x.command.0 (Bounced c n why ∷ Sent c n t ∷ P) ≡ standing x.command.0 P = ap (λ (b : Bool). cond b Waits (standing x.command.0 (Sent c n t ∷ P))) far ∙ stands_old x.command.0 far in
+        (stands ∙ before.0, out_alike x.command.0 P (Bounced c n why ∷ Sent c n t ∷ P) stands (ap (λ (b : Bool). cond b false (failed_since_sent x.command.0 P)) far) refl ∙ before.1)
   ]
     where
       dead_row : (y : Row) → y.owner ≡ None → live_in (Some (turned_away y)) ≡ true → ⊥
@@ -194,6 +201,15 @@ module _ (s : HostSpec) (P : List Entry) (r : Running) (runs : HostAgrees s P r)
           by_fields true w none live = cc
           by_fields false None none live = cc
           by_fields false (Some by) none live = cc
+
+  -- the scheduled aborts, where its attempt is one of the rows
+  pub sent_aborting : (new : List Row) → AreKept r.attempts.rows.items new → AreAborting (Sent c n t ∷ P) new r.failures.work.waiting
+  sent_aborting new kept = aborting_apart P (Sent c n t ∷ P) r.attempts.rows.items new kept c.0 (Busy n t) (λ d. refl) r.failures.work.waiting (unscheduled s P r runs c.0 unaborted) runs.aborting
+
+  pub bounced_aborting : (why : BusyOf) (new : List Row) → AreKept r.attempts.rows.items new → AreAborting (Bounced c n why ∷ Sent c n t ∷ P) new r.failures.work.waiting
+  bounced_aborting why new kept =
+      aborting_apart (Sent c n t ∷ P) (Bounced c n why ∷ Sent c n t ∷ P) r.attempts.rows.items new kept c.0 Waits (λ d. refl) r.failures.work.waiting (unscheduled s P r runs c.0 unaborted)
+      (sent_aborting r.attempts.rows.items (kept_same r.attempts.rows.items r.attempts.rows.items refl))
 
   pub is_sent : standing c.0 (Sent c n t ∷ P) ≡ Busy n t
   is_sent = stands_new c.0 (same c.0)

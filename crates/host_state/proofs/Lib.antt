@@ -1,7 +1,10 @@
 pub mod Ties
+pub mod Kept
 pub mod Moving
 pub mod Chosen
 pub mod Going
 pub mod Settled
 pub mod Timed
+pub mod Asked
+pub mod Aborts
 pub mod Failing

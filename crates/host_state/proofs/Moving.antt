@@ -14,23 +14,19 @@ use Rattle.attempt_table.specs.declared.rows.Row.{Row}
 use Rattle.attempt_table.specs.Rows.{row_of, live_in, Becomes}
 use Rattle.attempt_table.proofs.Bools.{same}
 use Rattle.attempt_table.proofs.Places.{row_here, row_other}
-use Rattle.command_table.specs.declared.rows.CommandRow.{CommandRow}
-use Rattle.command_table.specs.Rows.{id_at}
 use Rattle.trace_model.specs.declared.standing.Standing.TheVariants.{Busy}
-use Rattle.trace_model.specs.Commands.{standing, is_failed}
+use Rattle.trace_model.specs.Commands.{standing}
+use Rattle.failure_table.specs.FailuresAgree.{is_out}
 use Rattle.host_state.specs.HostAgrees.{AreUnderWay}
-
--- the row is of the same command and tag
-abbrev pub IsOfSame : Row → Row → Type 0
-IsOfSame old new = (new.command ≡ old.command) × (new.place ≡ old.place) × (new.tag ≡ old.tag)
+use Rattle.host_state.proofs.Kept.{IsOfSame}
 
 -- what is under way stays so where an attempt goes on
-pub moves_under_way : (P : List Entry) (n : ℕ) (f : Row → Row) (old new : List Row) (commands : List CommandRow) → (h : Becomes n f old new) → IsOfSame h.row (f h.row)
-    → live_in (Some h.row) ≡ true → AreUnderWay P old commands → AreUnderWay P new commands
-moves_under_way P n f old new commands h kept live under k r at lives = elim (cases_Bool (k == n)) as (λ _. (standing r.command.0 P ≡ Busy (record { 0 = k }) r.tag) × (id_at r.place commands ≡ Some r.command) × (is_failed r.command.0 P ≡ false)) [
+pub moves_under_way : (P : List Entry) (n : ℕ) (f : Row → Row) (old new : List Row) → (h : Becomes n f old new) → IsOfSame h.row (f h.row)
+    → live_in (Some h.row) ≡ true → AreUnderWay P old → AreUnderWay P new
+moves_under_way P n f old new h kept live under k r at lives = elim (cases_Bool (k == n)) as (λ _. (standing r.command.0 P ≡ Busy (record { 0 = k }) r.tag) × (is_out r.command.0 P ≡ true)) [
   | inl is ↦
       let moved : f h.row ≡ r = same_Some (f h.row) r (sym (row_here n f old new h) ∙ ap (λ (j : ℕ). row_of j new) (sym (eqb-true k n is)) ∙ at) in
-      rw (sym moved) (rw (eqb-true k n is, kept.0, kept.1, kept.2) (under n h.row h.was live))
+      rw (sym moved) (rw (eqb-true k n is, kept.0, kept.2) (under n h.row h.was live))
   | inr isnt ↦ under k r (sym (row_other n f old new h k (λ e. false≢true (sym isnt ∙ ap (λ (j : ℕ). j == n) e ∙ same n))) ∙ at) lives
 ]
 

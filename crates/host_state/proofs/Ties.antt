@@ -1,8 +1,8 @@
 -- What the tables say together.
 use Rattle.std.proofs.Common.{◌≡◌, ◌∙◌, sym, ap, refl, ℕ, zero, suc, ◌<◌, ◌==◌, Bool, true, false, cond, List, [], ◌∷◌, length, set, Option, None, Some, arith, inl, inr}
-use Rattle.std.specs.Prelude.{slice_get, option_map, Result, Ok, Err, OnErr, ◌||◌}
+use Rattle.std.specs.Prelude.{slice_get, option_map, ◌||◌}
 use Rattle.std.specs.List.{list_any}
-use Rattle.failure_table.specs.FailuresAgree.{knows}
+use Rattle.failure_table.specs.FailuresAgree.{knows, is_aborting, is_out}
 use Rattle.std.proofs.lemmas.Bool.{cases_Bool, false≢true, eq-eqb, eqb-true, ne_eqb}
 use Rattle.std.proofs.lemmas.Option.{same_Some, none-some}
 use Rattle.mid_base.specs.declared.names.CmdId.{CmdId}
@@ -17,7 +17,7 @@ use Rattle.mid_base.specs.Address.{same_dev}
 use Rattle.mid_base.specs.Past.{sent_for}
 use Rattle.trace_model.specs.declared.standing.Standing.{Standing}
 use Rattle.trace_model.specs.declared.standing.Standing.TheVariants.{New, Waits, Busy, Ended}
-use Rattle.trace_model.specs.Commands.{standing, holds, is_busy, failed_since_sent, is_failed}
+use Rattle.trace_model.specs.Commands.{standing, holds, is_busy, failed_since_sent}
 use Rattle.trace_model.specs.Tags.{sent_with}
 use Rattle.command_table.specs.declared.rows.CommandRow.{CommandRow}
 use Rattle.command_table.specs.declared.commands.Commands.{Commands}
@@ -123,19 +123,19 @@ id_kept rows i r q j at id = elim (cases_Bool (i == j)) as (λ _. id_at j (set r
   | inr isnt ↦ ap (option_map (λ (x : CommandRow). x.id)) (get_set rows i j r q at ∙ ap (λ (b : Bool). cond b (Some q) (slice_get rows j)) isnt)
 ]
 
--- a command that stands where it did has failed where it had
-pub failed_alike : (c : ℕ) (P Q : List Entry) → standing c Q ≡ standing c P → failed_since_sent c Q ≡ failed_since_sent c P → is_failed c Q ≡ is_failed c P
-failed_alike c P Q stands failing = rw (stands, failing) refl
+-- a command that stands where it did is out where it was
+pub out_alike : (c : ℕ) (P Q : List Entry) → standing c Q ≡ standing c P → failed_since_sent c Q ≡ failed_since_sent c P → is_aborting c Q ≡ is_aborting c P → is_out c Q ≡ is_out c P
+out_alike c P Q stands failing aborting = rw (stands, failing, aborting) refl
 
 -- a command that isn't busy has no attempt under way
-pub idle_under_way : (P Q : List Entry) (attempts : List Row) (old new : List CommandRow) (c : ℕ) (x : Standing) → is_busy (standing c P) ≡ false
-    → ((d : ℕ) → standing d Q ≡ cond (c == d) x (standing d P)) → ((d : ℕ) → failed_since_sent d Q ≡ failed_since_sent d P) → ((j : ℕ) → id_at j new ≡ id_at j old)
-    → AreUnderWay P attempts old → AreUnderWay Q attempts new
-idle_under_way P Q attempts old new c x idle changed failing ids under n r at live =
+pub idle_under_way : (P Q : List Entry) (attempts : List Row) (c : ℕ) (x : Standing) → is_busy (standing c P) ≡ false
+    → ((d : ℕ) → standing d Q ≡ cond (c == d) x (standing d P)) → ((d : ℕ) → failed_since_sent d Q ≡ failed_since_sent d P) → ((d : ℕ) → is_aborting d Q ≡ is_aborting d P)
+    → AreUnderWay P attempts → AreUnderWay Q attempts
+idle_under_way P Q attempts c x idle changed failing aborting under n r at live =
     let was = under n r at live in
     let apart : (c == r.command.0) ≡ false = ne_eqb c r.command.0 (λ e. false≢true (sym idle ∙ ap (λ (d : ℕ). is_busy (standing d P)) e ∙ ap is_busy was.0)) in
     let stands : standing r.command.0 Q ≡ standing r.command.0 P = changed r.command.0 ∙ ap (λ (b : Bool). cond b x (standing r.command.0 P)) apart in
-    (stands ∙ was.0, ids r.place ∙ was.1, failed_alike r.command.0 P Q stands (failing r.command.0) ∙ was.2)
+    (stands ∙ was.0, out_alike r.command.0 P Q stands (failing r.command.0) (aborting r.command.0) ∙ was.1)
 
 -- a command comes to stand where it isn't busy
 pub unheld : (s : HostSpec) (P Q : List Entry) (c : ℕ) (x : Standing) → is_busy x ≡ false → ((d : ℕ) → standing d Q ≡ cond (c == d) x (standing d P))
@@ -187,11 +187,6 @@ pub command_stands : (s : HostSpec) (P : List Entry) (t : Commands) → Commands
     → (c : CmdId) → id_at i t.rows.items ≡ Some c → standing c.0 P ≡ r.standing
 command_stands s P t f i r at c is = ap (λ (k : CmdId). standing k.0 P) (sym (id_is i t.rows.items r c at is)) ∙ (reads_at s P t f i r at).0
 
--- what holds anyway holds where there is no value
-pub on_err_from : {T E P : Type 0} (x : Result T E) → P → OnErr x P
-on_err_from (Ok v) p = tt
-on_err_from (Err e) p = p
-
 -- the ids of the rows are those of the spec
 ids_as : (luns : List LunSpec) (ks : List CmdSpec) (rs : List CommandRow) → AreCommands luns ks rs → (i : ℕ) → id_at i rs ≡ option_map (λ (k : CmdSpec). k.id) (slice_get ks i)
 ids_as luns [] [] are i = refl
@@ -202,9 +197,3 @@ ids_as luns (k ∷ ks) [] are i = absurd are
 
 pub same_ids : (s : HostSpec) (P Q : List Entry) (old new : Commands) → CommandsAgree s P old → CommandsAgree s Q new → (i : ℕ) → id_at i new.rows.items ≡ id_at i old.rows.items
 same_ids s P Q old new f g i = ids_as s.luns s.cmds new.rows.items g.rows_are i ∙ sym (ids_as s.luns s.cmds old.rows.items f.rows_are i)
-
--- where no command comes to stand elsewhere
-pub still_under_way : (s : HostSpec) (P : List Entry) (attempts : List Row) (old new : Commands) → CommandsAgree s P old → CommandsAgree s P new → AreUnderWay P attempts old.rows.items → AreUnderWay P attempts new.rows.items
-still_under_way s P attempts old new f g under n r at live =
-    let was = under n r at live in
-    (was.0, same_ids s P P old new f g r.place ∙ was.1, was.2)

@@ -147,6 +147,33 @@ module _ (s : HostSpec) (P : List Entry) (d : Deadlines) (tags : List TagState) 
       put_there (z ∷ zs) zero x y at = refl
       put_there (z ∷ zs) (suc k) x y at = put_there zs k x y at
 
+  -- the timer of an open attempt runs no longer
+  pub timed_dropped : (attempts : Attempts) → AttemptsAgree s P attempts → attempts.tags.items ≡ tags → (Q : List Entry) (new : Deadlines) (n : Attempt)
+      → slice_get tags (tag_in (row_of n.0 attempts.rows.items)).0 ≡ Some (tag.Armed n) → Stops n.0 d.timers new.timers → DeadlinesAgree s Q new → IsTimed s Q new tags
+  timed_dropped attempts run shown Q new n there stops agrees =
+      let g = is_timed_tag new.timers.timers in
+      let freed = timed_stopped attempts run shown Q new n tag.Free there (λ timers. refl) stops agrees in
+      let set = count_set g tags (tag_in (row_of n.0 attempts.rows.items)).0 (tag.Armed n) tag.Free there in
+      let none : ◌≡◌ {A = ℕ} (cond (g (tag.Armed n)) 1 0) 0 = rw (own_deadline n.0 None d.timers.timers new.timers.timers stops.deadlines) refl in
+      record { agrees = agrees; most = freed.most; count = omega (arith, set, none, freed.count) }
+
+  -- the timer of an attempt runs longer
+  pub timed_longer : (Q : List Entry) (new : Deadlines) (n : Attempt) (was at : ℕ) → deadline_of n.0 d.timers.timers ≡ Some was → Becomes n.0 (Some at) d.timers.timers new.timers.timers
+      → length new.timers.timers ≡ length d.timers.timers → new.timers.most ≡ d.timers.most → DeadlinesAgree s Q new → IsTimed s Q new tags
+  timed_longer Q new n was at before becomes count most agrees =
+      let alike = count_same (is_timed_tag new.timers.timers) (is_timed_tag d.timers.timers) tags (λ k x there. still x) in
+      record { agrees = agrees; most = most ∙ timed.most; count = count ∙ timed.count ∙ sym alike }
+    where
+      still : (x : TagState) → is_timed_tag new.timers.timers x ≡ is_timed_tag d.timers.timers x
+      still tag.Free = refl
+      still (tag.Owned m by) = refl
+      still (tag.Armed m) = elim (cases_eq m.0 n.0) [
+        | inl e ↦
+            ap (λ (j : ℕ). is_some (deadline_of j new.timers.timers)) e ∙ ap is_some (own_deadline n.0 (Some at) d.timers.timers new.timers.timers becomes)
+            ∙ sym (ap (λ (j : ℕ). is_some (deadline_of j d.timers.timers)) e ∙ ap is_some before)
+        | inr ne ↦ ap is_some (other_deadline n.0 m.0 (Some at) d.timers.timers new.timers.timers becomes ne)
+      ]
+
   -- the tag of a settled attempt is free, and timers run as they did
   pub timed_settled : (Q : List Entry) (u : ℕ) (x : TagState) → slice_get tags u ≡ Some x → is_timed_tag d.timers.timers x ≡ false → DeadlinesAgree s Q d → IsTimed s Q d (slice_set tags u tag.Free)
   timed_settled Q u x there untimed agrees =

@@ -1,2 +1,3 @@
 pub mod HostAgrees
 pub mod Picks
+pub mod Owners

@@ -1,4 +1,4 @@
-ghost use Rattle.std.specs.Prelude.{◌≡◌, ◌<◌, ◌^◌, ℕ, [], true, false, List, IfOk, OnOk, OnErr, MatchOption, length, slice_get};
+ghost use Rattle.std.specs.Prelude.{◌≡◌, ◌<◌, ◌^◌, ℕ, [], true, false, List, IfOk, OnOk, OnErr, MatchOption, length, nat_lt, slice_get};
 ghost use Rattle.std.specs.List.{list_all, list_any};
 ghost use Rattle.mid_base.specs.declared.entries.Entry.{Entry as EntrySeen};
 ghost use Rattle.mid_base.specs.declared.host_spec.HostSpec.{HostSpec as SpecSeen};
@@ -7,6 +7,7 @@ ghost use Rattle.mid_base.specs.Limits.{KeepsLimits};
 ghost use Rattle.attempt_table.specs.Rows.{row_of};
 ghost use Rattle.attempt_table.specs.AttemptsAgree.{HasRoom};
 ghost use Rattle.device_table.specs.Rows.{dev_at};
+ghost use Rattle.trace_model.specs.Attempts.{late};
 ghost use Rattle.trace_model.specs.Devices.{in_recovery};
 ghost use Rattle.trace_model.specs.Drained.{is_done};
 ghost use Rattle.trace_model.specs.Tags.{tag_states};
@@ -84,6 +85,13 @@ impl Running {
         ensures { (s : SpecSeen) (P : List EntrySeen) → HostAgrees s P self.now → IsNextLate P result }
     {
         self.attempts.next_late()
+    }
+
+    /// Whether an answer of this attempt is to be ignored.
+    pub fn is_late(&self, n: Attempt) -> bool
+        ensures { (s : SpecSeen) (P : List EntrySeen) → HostAgrees s P self.now → nat_lt 0 (late n.0 P) ≡ result }
+    {
+        self.attempts.is_late(n)
     }
 
     /// Whether each command is handed in, and each that was taken is reported.

@@ -1,4 +1,4 @@
-ghost use Rattle.std.specs.Prelude.{◌≡◌, ◌||◌, ℕ, true, false, List, ◌∷◌, Some, OnOk, OnErr, MatchOption, is_none, slice_get, slice_set};
+ghost use Rattle.std.specs.Prelude.{◌≡◌, ◌||◌, ℕ, true, false, List, ◌∷◌, Some, MatchOption, is_none, slice_get, slice_set};
 ghost use Rattle.mid_base.specs.declared.answers.Answer.{Answer as AnswerSeen};
 ghost use Rattle.mid_base.specs.declared.answers.By.TheVariants.{Answer as ByAnswer};
 ghost use Rattle.mid_base.specs.declared.answers.Disp.{Disp as DispSeen};
@@ -8,20 +8,21 @@ ghost use Rattle.mid_base.specs.declared.entries.Entry.TheVariants as entries;
 ghost use Rattle.mid_base.specs.declared.host_spec.HostSpec.{HostSpec as SpecSeen};
 ghost use Rattle.trace_model.specs.Attempts.{owner, is_settled};
 ghost use Rattle.attempt_table.specs.AttemptsAgree.{HasRoom};
+ghost use Rattle.host_state.specs.Owners.{IsOwnedAs};
 
 use crate::Running;
 use attempt_table::Row;
-use mid_base::{Answer, Attempt, By, NoMemory};
+use mid_base::{Answer, Attempt, By};
 
-/// An attempt that its answer owns and that isn't settled.
+/// An attempt that has an owner and isn't settled: its row, and its answer where that is the owner.
 #[derive(Clone, Copy, PartialEq, Eq, Debug)]
-pub struct Owned {
-    pub row: Row,
-    pub answer: Answer,
+pub enum Owned {
+    Answered(Row, Answer),
+    Expired(Row),
 }
 
 impl Running {
-    ghost use Rattle.host_state.specs.HostAgrees.{HostAgrees, IsAnswered, IsOwned, IsOwnedRow, HasRetries, IsFreed};
+    ghost use Rattle.host_state.specs.HostAgrees.{HostAgrees, IsClaimed, IsOwnedRow, HasRetries, IsFreed};
 
     /// An answer came: the first one of an open attempt, or one that is to be ignored.
     pub fn answer(&mut self, n: Attempt, a: Answer)
@@ -32,9 +33,9 @@ impl Running {
         self.attempts.answer(n, a);
     }
 
-    /// The attempt's row and its answer, where the answer owns it and it isn't settled.
+    /// The attempt with its owner, where it has one and isn't settled.
     pub fn owned(&self, n: Attempt) -> Option<Owned>
-        ensures { (s : SpecSeen) (P : List EntrySeen) → HostAgrees s P self.now → MatchOption result (is_none (owner n.0 P) || is_settled n.0 P ≡ true) (λ o. IsOwned self.now n o.row o.answer) }
+        ensures { (s : SpecSeen) (P : List EntrySeen) → HostAgrees s P self.now → MatchOption result (is_none (owner n.0 P) || is_settled n.0 P ≡ true) (IsOwnedAs self.now n) }
     {
         let Some(row) = self.attempts.row(n) else {
             return None;
@@ -42,19 +43,22 @@ impl Running {
         if !row.is_owned() {
             return None;
         }
+        if let Some(By::Expiry) = row.owner {
+            return Some(Owned::Expired(row));
+        }
         let Some(answer) = self.attempts.answer_of(n) else {
             return None;
         };
-        Some(Owned { row, answer })
+        Some(Owned::Answered(row, answer))
     }
 
-    /// The answer owns the attempt.
-    pub fn own(&mut self, n: Attempt)
-        requires { IsAnswered self.old n }
-        ensures runs { (s : SpecSeen) (P : List EntrySeen) → HostAgrees s P self.old → HostAgrees s (entries.Owned n ByAnswer ∷ P) self.new }
-        ensures shown { (s : SpecSeen) (P : List EntrySeen) → HostAgrees s P self.old → (t : ℕ) × (slice_get self.old.attempts.tags.items t ≡ Some (tag.Armed n)) × (self.new.attempts.tags.items ≡ slice_set self.old.attempts.tags.items t (tag.Owned n ByAnswer)) }
+    /// The attempt comes to belong to its answer, or to its expired timer; then an answer of it is to be ignored.
+    pub fn own(&mut self, n: Attempt, by: By)
+        requires { IsClaimed self.old n by }
+        ensures runs { (s : SpecSeen) (P : List EntrySeen) → HostAgrees s P self.old → HostAgrees s (entries.Owned n by ∷ P) self.new }
+        ensures shown { (s : SpecSeen) (P : List EntrySeen) → HostAgrees s P self.old → (t : ℕ) × (slice_get self.old.attempts.tags.items t ≡ Some (tag.Armed n)) × (self.new.attempts.tags.items ≡ slice_set self.old.attempts.tags.items t (tag.Owned n by)) }
     {
-        self.attempts.own(n, By::Answer);
+        self.attempts.own(n, by);
         self.deadlines.own(n);
     }
 
@@ -62,7 +66,7 @@ impl Running {
     pub fn report(&mut self, n: Attempt, row: Row, a: Answer)
         requires { IsOwnedRow self.old n row a }
         ensures runs { (s : SpecSeen) (P : List EntrySeen) (d : DispSeen) (x : AnswerSeen) → HostAgrees s P self.old → HostAgrees s (entries.Told row.command x ∷ entries.Judged row.command n d ∷ P) self.new }
-        ensures shown { IsFreed self.old.attempts.tags.items self.new.attempts.tags.items n row.tag }
+        ensures shown { IsFreed self.old.attempts.tags.items self.new.attempts.tags.items n ByAnswer row.tag }
     {
         let device = self.commands.row(row.place).device;
         self.commands.tell(row.place);
@@ -73,29 +77,25 @@ impl Running {
     }
 
     /// The answer that owns an attempt was judged, and the command waits again, which is counted as a retry or isn't.
-    /// NoMemory changes nothing.
-    pub fn again(&mut self, n: Attempt, row: Row, a: Answer, counted: bool) -> Result<(), NoMemory>
+    pub fn again(&mut self, n: Attempt, row: Row, a: Answer, counted: bool)
         requires owned { IsOwnedRow self.old n row a }
         requires few { counted ≡ true → HasRetries self.old row.place }
-        ensures runs { OnOk result ((s : SpecSeen) (P : List EntrySeen) (d : DispSeen) → HostAgrees s P self.old → HostAgrees s (entries.Again row.command counted ∷ entries.Judged row.command n d ∷ P) self.new) }
-        ensures shown { OnOk result (IsFreed self.old.attempts.tags.items self.new.attempts.tags.items n row.tag) }
-        ensures same { OnErr result ((s : SpecSeen) (P : List EntrySeen) → HostAgrees s P self.old → HostAgrees s P self.new) }
-        ensures kept { OnErr result (self.new.attempts.tags.items ≡ self.old.attempts.tags.items) }
+        ensures runs { (s : SpecSeen) (P : List EntrySeen) (d : DispSeen) → HostAgrees s P self.old → HostAgrees s (entries.Again row.command counted ∷ entries.Judged row.command n d ∷ P) self.new }
+        ensures shown { IsFreed self.old.attempts.tags.items self.new.attempts.tags.items n ByAnswer row.tag }
     {
         let device = self.commands.row(row.place).device;
-        self.commands.again(row.place, counted)?;
+        self.commands.again(row.place, counted);
         self.devices.judged(device, &a);
         self.devices.again(device, row.tag, counted);
         self.failures.again(row.command);
         self.attempts.settle(n);
-        Ok(())
     }
 
     /// The answer that owns an attempt was judged, and the command has failed: the host is in recovery.
     pub fn fail(&mut self, n: Attempt, row: Row, a: Answer)
         requires { IsOwnedRow self.old n row a }
         ensures runs { (s : SpecSeen) (P : List EntrySeen) (d : DispSeen) → HostAgrees s P self.old → HostAgrees s (entries.Failed row.command n false ∷ entries.Judged row.command n d ∷ P) self.new }
-        ensures shown { IsFreed self.old.attempts.tags.items self.new.attempts.tags.items n row.tag }
+        ensures shown { IsFreed self.old.attempts.tags.items self.new.attempts.tags.items n ByAnswer row.tag }
     {
         let device = self.commands.row(row.place).device;
         self.devices.judged(device, &a);

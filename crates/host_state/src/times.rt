@@ -8,7 +8,7 @@ ghost use Rattle.trace_model.specs.Time.{is_expired};
 ghost use Rattle.device_table.specs.Rows.{dev_at};
 
 use crate::Running;
-use mid_base::{By, DeviceState, Tick};
+use mid_base::{Attempt, By, DeviceState, Tick};
 
 impl Running {
     ghost use Rattle.host_state.specs.HostAgrees.{HostAgrees};
@@ -25,6 +25,14 @@ impl Running {
         ensures { (s : SpecSeen) (P : List EntrySeen) → HostAgrees s P self.now → list_any (λ n. is_expired s P n || (is_open n P && is_due n P)) (attempts P) ≡ result }
     {
         self.deadlines.has_due(Tick(self.ticks)) || self.attempts.has_claim(By::Expiry)
+    }
+
+    /// One answer of the attempt that is to be ignored is ignored. Where there is none, nothing changes.
+    pub fn drop_late(&mut self, n: Attempt)
+        ensures runs { (s : SpecSeen) (P : List EntrySeen) → HostAgrees s P self.old → HostAgrees s (entries.Late n ∷ P) self.new }
+        ensures shown { self.new.attempts.tags.items ≡ self.old.attempts.tags.items }
+    {
+        self.attempts.drop_late(n);
     }
 
     /// Time goes on by one tick, and all pauses end. No attempt's time may be up.

@@ -6,7 +6,7 @@ use Rattle.std.proofs.lemmas.Option.{same_Some}
 use Rattle.std.proofs.lemmas.Bool.{eq-eqb, lt-ltb, and_parts, false≢true}
 use Rattle.mid_base.specs.declared.answers.Answer.{Answer}
 use Rattle.mid_base.specs.declared.answers.BusyOf.{BusyOf}
-use Rattle.mid_base.specs.declared.answers.By.TheVariants.{Answer as ByAnswer}
+use Rattle.mid_base.specs.declared.answers.By.TheVariants.{Answer as ByAnswer, Expiry as ByExpiry}
 use Rattle.mid_base.specs.declared.answers.Disp.{Disp}
 use Rattle.mid_base.specs.declared.answers.Disp.TheVariants.{Success, Retry, Requeue, Fail}
 use Rattle.mid_base.specs.declared.entries.Entry.{Entry}
@@ -21,30 +21,33 @@ use Rattle.mid_base.specs.declared.names.Tag.{Tag}
 use Rattle.mid_base.specs.declared.states.DeviceState.{DeviceState}
 use Rattle.mid_base.specs.declared.states.DeviceState.TheVariants as device
 use Rattle.mid_base.specs.declared.steps.Step.TheVariants as step
-use Rattle.mid_base.specs.declared.steps.Why.TheVariants.{Spent, Illegal as NotLegal}
+use Rattle.mid_base.specs.declared.steps.Why.TheVariants.{Spent, NotOpen, NotLate, Illegal as NotLegal}
 use Rattle.mid_base.specs.Address.{has_dev}
-use Rattle.mid_base.specs.Answers.{no_connect}
+use Rattle.mid_base.specs.Answers.{no_connect, time_out}
+use Rattle.mid_base.specs.Levels.{abort, calls}
 use Rattle.mid_base.specs.Past.{ticks, sent_for}
 use Rattle.device_states.specs.States.{is_closed, same_state, may_become, set_or_refuse}
 use Rattle.device_states.specs.declared.tables.Illegal.{Illegal}
 use Rattle.trace_model.specs.Attempts.{attempts, answered, sends, is_open, is_answered, answer, late, owner, is_settled, is_due}
 use Rattle.trace_model.specs.Devices.{state, is_online, has_begun}
-use Rattle.trace_model.specs.Judging.{disp_of, to_judge}
+use Rattle.trace_model.specs.Commands.{aborts}
+use Rattle.trace_model.specs.Flush.{is_empty}
+use Rattle.trace_model.specs.Judging.{disp_of, to_judge, to_abort, may_own, has_abort_left, may_retry, is_first}
 use Rattle.trace_model.specs.Legal.{Group}
 use Rattle.trace_model.specs.Names.{command, dev_of}
 use Rattle.trace_model.specs.Sending.{is_next_of_lane, is_refused, is_stranded, is_least_free}
 use Rattle.mid_base.specs.Limits.{last_number}
 use Rattle.trace_model.specs.Steps.{barred, opens}
-use Rattle.trace_model.specs.Time.{is_expired, is_claimed}
+use Rattle.trace_model.specs.Time.{is_expired, is_claimed, may_ask}
 use Rattle.attempt_table.specs.declared.rows.Row.{Row}
-use Rattle.attempt_table.specs.Rows.{row_of, claims_by, owner_in, settled_in, answer_in, command_in}
+use Rattle.attempt_table.specs.Rows.{row_of, claims_by, open_in, answered_in, due_in, owner_in, settled_in, answer_in, command_in}
 use Rattle.attempt_table.proofs.Told.{answer_known}
 use Rattle.mid_base.specs.declared.answers.By.{By}
 use Rattle.host_state.specs.declared.running.Running.{Running}
-use Rattle.host_state.specs.HostAgrees.{HostAgrees, IsOwned}
+use Rattle.host_state.specs.HostAgrees.{HostAgrees, IsOwnedBy}
 use Rattle.host_template.specs.Laws.{IsSilent}
 use Rattle.mid_core.specs.Steps.{may_enter}
-use Rattle.mid_core.specs.Choices.{IsHandedIn, HasTurn, MayBeSent, IsHanded, follow_of}
+use Rattle.mid_core.specs.Choices.{IsHandedIn, HasTurn, MayBeSent, IsHanded, IsSaidOf, has_cause, why_not, follow_of, after_expiry, after_abort}
 use Rattle.mid_core.specs.declared.sending.Handed.{Handed}
 use Rattle.mid_core.proofs.Known.{picked_command}
 use Rattle.mid_core.proofs.Offered.{command_of}
@@ -115,25 +118,76 @@ group_handed s P r new runs i may o told =
 pub group_bounced : (s : HostSpec) (P : List Entry) (c : CmdId) (n : Attempt) (t : Tag) (why : BusyOf) → Group s (entry.Sent c n t ∷ P) (entry.Bounced c n why ∷ [])
 group_bounced s P c n t why = (rw (same c.0, same n.0) refl, tt)
 
--- an attempt with an answer
-module _ (s : HostSpec) (P : List Entry) (r : Running) (runs : HostAgrees s P r) (n : Attempt) (waits : claims_by ByAnswer (row_of n.0 r.attempts.rows.items) ≡ true) where
-  may_own : is_open n.0 P && is_answered n.0 P ≡ true
-  may_own = (runs.attempts.0.rows n.0).2 ∙ waits
+-- an attempt that waits for this owner
+module _ (s : HostSpec) (P : List Entry) (r : Running) (runs : HostAgrees s P r) (n : Attempt) (by : By) (row : Row) (there : row_of n.0 r.attempts.rows.items ≡ Some row) (opened : row.out ≡ true)
+    (caused : has_cause by row ≡ true) where
+  is_opened : is_open n.0 P ≡ true
+  is_opened = (runs.attempts.0.rows n.0).1 ∙ ap open_in there ∙ opened
 
-  pub group_owned : Group s P (entry.Owned n ByAnswer ∷ [])
-  group_owned = (may_own, tt)
+  pub waits_for : claims_by by (row_of n.0 r.attempts.rows.items) ≡ true
+  waits_for = ap (claims_by by) there ∙ by_side by caused
+    where
+      by_side : (x : By) → has_cause x row ≡ true → claims_by x (Some row) ≡ true
+      by_side ByAnswer is = rw (opened, is) refl
+      by_side ByExpiry is = rw (opened, is) refl
 
-  pub nothing_bars_owning : (due : Bool) → barred s due P (step.Own n ByAnswer) ≡ None
-  nothing_bars_owning due =
-      let both = and_parts (is_open n.0 P) (is_answered n.0 P) may_own in
-      rw (both.0, both.1) refl
+  may_belong : may_own n.0 by P ≡ true
+  may_belong = by_side by caused
+    where
+      by_side : (x : By) → has_cause x row ≡ true → may_own n.0 x P ≡ true
+      by_side ByAnswer is = (runs.attempts.0.rows n.0).2 ∙ ap (λ (y : Option Row). open_in y && answered_in y) there ∙ rw (opened, is) refl
+      by_side ByExpiry is =
+          let due : is_due n.0 P ≡ true = (runs.attempts.0.rows n.0).8 ∙ ap due_in there ∙ is in
+          rw (is_opened, due) refl
 
-pub opens_owned : (s : HostSpec) (P : List Entry) (n : Attempt) → opens s P (step.Own n ByAnswer) (entry.Owned n ByAnswer) ≡ true
-opens_owned s P n = rw (same n.0) refl
+  pub group_owned : Group s P (entry.Owned n by ∷ [])
+  group_owned = (may_belong, tt)
 
--- one that it owns
-module _ (s : HostSpec) (P : List Entry) (r : Running) (runs : HostAgrees s P r) (n : Attempt) (row : Row) (a : Answer) (is : IsOwned r n row a) where
-  owned_by : owner n.0 P ≡ Some ByAnswer
+  pub nothing_bars_owning : (due : Bool) → barred s due P (step.Own n by) ≡ None
+  nothing_bars_owning due = by_side by may_belong
+    where
+      by_side : (x : By) → may_own n.0 x P ≡ true → barred s due P (step.Own n x) ≡ None
+      by_side ByAnswer may = let both = and_parts (is_open n.0 P) (is_answered n.0 P) may in rw (both.0, both.1) refl
+      by_side ByExpiry may = let both = and_parts (is_open n.0 P) (is_due n.0 P) may in rw (both.0, both.1) refl
+
+pub opens_owned : (s : HostSpec) (P : List Entry) (n : Attempt) (by : By) → opens s P (step.Own n by) (entry.Owned n by) ≡ true
+opens_owned s P n ByAnswer = rw (same n.0) refl
+opens_owned s P n ByExpiry = rw (same n.0) refl
+
+pub enters_owned : (n : Attempt) (by : By) → list_all (may_enter (step.Own n by)) (entry.Owned n by ∷ []) ≡ true
+enters_owned n ByAnswer = rw (same n.0) refl
+enters_owned n ByExpiry = rw (same n.0) refl
+
+-- an attempt that isn't open can't be owned, nor one that has no cause for it
+module _ (s : HostSpec) (P : List Entry) (r : Running) (runs : HostAgrees s P r) (n : Attempt) (by : By) where
+  pub not_open_bars : open_in (row_of n.0 r.attempts.rows.items) ≡ false → (due : Bool) → barred s due P (step.Own n by) ≡ Some NotOpen
+  not_open_bars closed due = by_side by
+    where
+      is_closed : is_open n.0 P ≡ false
+      is_closed = (runs.attempts.0.rows n.0).1 ∙ closed
+
+      by_side : (x : By) → barred s due P (step.Own n x) ≡ Some NotOpen
+      by_side ByAnswer = rw is_closed refl
+      by_side ByExpiry = rw is_closed refl
+
+  pub no_cause_bars : (row : Row) → row_of n.0 r.attempts.rows.items ≡ Some row → row.out ≡ true → has_cause by row ≡ false → (due : Bool) → barred s due P (step.Own n by) ≡ Some (why_not by)
+  no_cause_bars row there opened uncaused due = by_side by uncaused
+    where
+      is_opened : is_open n.0 P ≡ true
+      is_opened = (runs.attempts.0.rows n.0).1 ∙ ap open_in there ∙ opened
+
+      by_side : (x : By) → has_cause x row ≡ false → barred s due P (step.Own n x) ≡ Some (why_not x)
+      by_side ByAnswer isnt =
+          let answered : is_open n.0 P && is_answered n.0 P ≡ false = (runs.attempts.0.rows n.0).2 ∙ ap (λ (y : Option Row). open_in y && answered_in y) there ∙ rw (opened, isnt) refl in
+          let unanswered : is_answered n.0 P ≡ false = rw is_opened at answered in
+          rw (is_opened, unanswered) refl
+      by_side ByExpiry isnt =
+          let undue : is_due n.0 P ≡ false = (runs.attempts.0.rows n.0).8 ∙ ap due_in there ∙ isnt in
+          rw (is_opened, undue) refl
+
+-- an attempt that has an owner and isn't settled
+module _ (s : HostSpec) (P : List Entry) (r : Running) (runs : HostAgrees s P r) (n : Attempt) (row : Row) (by : By) (is : IsOwnedBy r n row by) where
+  owned_by : owner n.0 P ≡ Some by
   owned_by = (runs.attempts.0.rows n.0).4 ∙ ap owner_in is.at ∙ is.owner
 
   unsettled : is_settled n.0 P ≡ false
@@ -147,16 +201,20 @@ module _ (s : HostSpec) (P : List Entry) (r : Running) (runs : HostAgrees s P r)
   pub nothing_bars_settling : (due : Bool) → barred s due P (step.Settle n) ≡ None
   nothing_bars_settling due = rw (owned_by, unsettled) refl
 
+  of_command : sent_for n.0 P ≡ row.command.0
+  of_command = (runs.attempts.0.rows n.0).6 ∙ ap command_in is.at
+
+-- its answer is judged
+module _ (s : HostSpec) (P : List Entry) (r : Running) (runs : HostAgrees s P r) (n : Attempt) (row : Row) (a : Answer) (is : IsOwnedBy r n row ByAnswer)
+    (kept : answer_in r.attempts.kept.items (Some row) ≡ Some a) where
   judging : to_judge P row.command.0 n.0 && not (has_begun P) ≡ true
-  judging =
-      let sent : sent_for n.0 P ≡ row.command.0 = (runs.attempts.0.rows n.0).6 ∙ ap command_in is.at in
-      rw (owned_by, unsettled, sent, same row.command.0, runs.calm) refl
+  judging = rw (owned_by s P r runs n row ByAnswer is, unsettled s P r runs n row ByAnswer is, of_command s P r runs n row ByAnswer is, same row.command.0, runs.calm) refl
 
   pub group_judged : (d : Disp) → d ≡ disp_of s P row.command.0 a → Group s P (entry.Judged row.command n d ∷ follow_of row.command n a d ∷ [])
   group_judged d right = by d right
     where
       told : answer n.0 P ≡ Some a
-      told = answer_known s P r.attempts runs.attempts n.0 a (ap (answer_in r.attempts.kept.items) is.at ∙ is.answer)
+      told = answer_known s P r.attempts runs.attempts n.0 a (ap (answer_in r.attempts.kept.items) is.at ∙ kept)
 
       by : (d : Disp) → d ≡ disp_of s P row.command.0 a → Group s P (entry.Judged row.command n d ∷ follow_of row.command n a d ∷ [])
       by Success e = rw told ((judging, e), (refl, tt))
@@ -164,8 +222,115 @@ module _ (s : HostSpec) (P : List Entry) (r : Running) (runs : HostAgrees s P r)
       by Requeue e = rw told ((judging, e), (refl, tt))
       by Fail e = rw told ((judging, e), (refl, tt))
 
-  pub opens_judged : (d : Disp) → opens s P (step.Settle n) (entry.Judged row.command n d) ≡ true
-  opens_judged d = same n.0
+pub opens_judged : (s : HostSpec) (P : List Entry) (n : Attempt) (c : CmdId) (d : Disp) → opens s P (step.Settle n) (entry.Judged c n d) ≡ true
+opens_judged s P n c d = same n.0
+
+-- one that its expired timer owns is set for an abort, or has failed
+module _ (s : HostSpec) (P : List Entry) (r : Running) (runs : HostAgrees s P r) (n : Attempt) (row : Row) (is : IsOwnedBy r n row ByExpiry) where
+  giving_up : to_abort P row.command.0 n.0 ≡ true
+  giving_up = rw (owned_by s P r runs n row ByExpiry is, unsettled s P r runs n row ByExpiry is, of_command s P r runs n row ByExpiry is, same row.command.0) refl
+
+  pub group_expired : (e : Entry) → e ≡ after_expiry s P row.command n → Group s P (e ∷ [])
+  group_expired e right = subst (λ (x : Entry). Group s P (x ∷ [])) (sym right) (by_left (has_abort_left s P row.command.0) refl)
+    where
+      by_left : (b : Bool) → has_abort_left s P row.command.0 ≡ b → Group s P (cond b (entry.AbortSet row.command n) (entry.Failed row.command n true) ∷ [])
+      by_left true left = (rw (giving_up, left) refl, tt)
+      by_left false left = (rw (giving_up, left) refl, tt)
+
+pub opens_expired : (s : HostSpec) (P : List Entry) (c : CmdId) (n : Attempt) → opens s P (step.Settle n) (after_expiry s P c n) ≡ true
+opens_expired s P c n = by_left (has_abort_left s P c.0)
+  where
+    by_left : (b : Bool) → opens s P (step.Settle n) (cond b (entry.AbortSet c n) (entry.Failed c n true)) ≡ true
+    by_left true = same n.0
+    by_left false = same n.0
+
+pub expired_silent : (s : HostSpec) (P : List Entry) (c : CmdId) (n : Attempt) → IsSilent s (after_expiry s P c n)
+expired_silent s P c n = by_left (has_abort_left s P c.0)
+  where
+    by_left : (b : Bool) → IsSilent s (cond b (entry.AbortSet c n) (entry.Failed c n true))
+    by_left true = tt
+    by_left false = tt
+
+pub expired_enters : (s : HostSpec) (P : List Entry) (c : CmdId) (n : Attempt) → list_all (may_enter (step.Settle n)) (after_expiry s P c n ∷ []) ≡ true
+expired_enters s P c n = by_left (has_abort_left s P c.0)
+  where
+    by_left : (b : Bool) → list_all (may_enter (step.Settle n)) (cond b (entry.AbortSet c n) (entry.Failed c n true) ∷ []) ≡ true
+    by_left true = refl
+    by_left false = refl
+
+-- the lower layer was asked about an attempt whose time is up
+module _ (s : HostSpec) (P : List Entry) (n : Attempt) (asked : may_ask s P n.0 ≡ true) where
+  pub group_asked : (e : Entry) → IsSaidOf n e → Group s P (e ∷ [])
+  group_asked (entry.Due m) is = (ap (λ (x : Attempt). may_ask s P x.0) is ∙ asked, tt)
+  group_asked (entry.Longer m) is = (ap (λ (x : Attempt). may_ask s P x.0) is ∙ asked, tt)
+  group_asked (entry.DoneSaid m) is = (ap (λ (x : Attempt). may_ask s P x.0) is ∙ asked, tt)
+  group_asked e is = absurd is
+
+pub opens_asked : (s : HostSpec) (P : List Entry) (n : Attempt) (e : Entry) → IsSaidOf n e → opens s P step.Due e ≡ true
+opens_asked s P n (entry.Due m) is = refl
+opens_asked s P n (entry.Longer m) is = refl
+opens_asked s P n (entry.DoneSaid m) is = refl
+opens_asked s P n e is = absurd is
+
+pub asked_enters : (n : Attempt) (e : Entry) → IsSaidOf n e → list_all (may_enter step.Due) (e ∷ []) ≡ true
+asked_enters n (entry.Due m) is = refl
+asked_enters n (entry.Longer m) is = refl
+asked_enters n (entry.DoneSaid m) is = refl
+asked_enters n e is = absurd is
+
+pub nothing_bars_asking : (s : HostSpec) (P : List Entry) → list_any (is_expired s P) (attempts P) ≡ true → (due : Bool) → barred s due P step.Due ≡ None
+nothing_bars_asking s P some due = rw some refl
+
+-- an answer that is to be ignored
+module _ (s : HostSpec) (P : List Entry) (n : Attempt) (late_one : nat_lt 0 (late n.0 P) ≡ true) where
+  pub group_late : Group s P (entry.Late n ∷ [])
+  group_late = (late_one, tt)
+
+  pub nothing_bars_dropping : (due : Bool) → barred s due P (step.Drop n) ≡ None
+  nothing_bars_dropping due = rw (not_none (late n.0 P) late_one) refl
+    where
+      not_none : (m : ℕ) → nat_lt 0 m ≡ true → (m == 0) ≡ false
+      not_none zero h = cc
+      not_none (suc m) h = refl
+
+pub no_late_bars : (s : HostSpec) (P : List Entry) (n : Attempt) → nat_lt 0 (late n.0 P) ≡ false → (due : Bool) → barred s due P (step.Drop n) ≡ Some NotLate
+no_late_bars s P n none due = rw (is_none_late (late n.0 P) none) refl
+  where
+    is_none_late : (m : ℕ) → nat_lt 0 m ≡ false → (m == 0) ≡ true
+    is_none_late zero h = refl
+    is_none_late (suc m) h = absurd (false≢true (sym h ∙ lt-ltb 0 (suc m) (omega arith)))
+
+-- the abort that was scheduled first was tried
+module _ (s : HostSpec) (P : List Entry) (c : CmdId) (n : Attempt) (ok : Bool) (first : is_first n.0 (aborts P) ≡ true) (sent : sent_for n.0 P ≡ c.0) (called : ok ≡ true → calls s.handlers abort ≡ true) where
+  pub group_aborted : (e : Entry) → e ≡ after_abort s P c n ok → Group s P (entry.Aborted c n ok ∷ e ∷ [])
+  group_aborted e right = by_ok ok called right
+    where
+      by_ok : (b : Bool) → (b ≡ true → calls s.handlers abort ≡ true) → e ≡ after_abort s P c n b → Group s P (entry.Aborted c n b ∷ e ∷ [])
+      by_ok true has is = (rw (first, sent, same c.0, has refl) refl, (is, tt))
+      by_ok false has is = (rw (first, sent, same c.0) refl, (is, tt))
+
+  pub nothing_bars_aborting : (due : Bool) → barred s due P step.Abort ≡ None
+  nothing_bars_aborting due = rw (some_wait (aborts P) first) refl
+    where
+      some_wait : (ns : List ℕ) → is_first n.0 ns ≡ true → is_empty ns ≡ false
+      some_wait [] h = cc
+      some_wait (m ∷ ns) h = refl
+
+pub after_abort_silent : (s : HostSpec) (P : List Entry) (c : CmdId) (n : Attempt) (ok : Bool) → IsSilent s (after_abort s P c n ok)
+after_abort_silent s P c n false = tt
+after_abort_silent s P c n true = by_retry (may_retry s P c.0)
+  where
+    by_retry : (b : Bool) → IsSilent s (cond b (entry.Again c true) (entry.Told c time_out))
+    by_retry true = tt
+    by_retry false = tt
+
+pub aborted_enters : (s : HostSpec) (P : List Entry) (c : CmdId) (n : Attempt) (ok : Bool) → list_all (may_enter step.Abort) (entry.Aborted c n ok ∷ after_abort s P c n ok ∷ []) ≡ true
+aborted_enters s P c n false = refl
+aborted_enters s P c n true = by_retry (may_retry s P c.0)
+  where
+    by_retry : (b : Bool) → list_all (may_enter step.Abort) (entry.Aborted c n true ∷ cond b (entry.Again c true) (entry.Told c time_out) ∷ []) ≡ true
+    by_retry true = refl
+    by_retry false = refl
 
 -- time goes on
 none_claimed : (P : List Entry) (xs : List ℕ) (f : ℕ → Bool) → list_any (λ n. is_open n P && is_answered n P) xs ≡ false → list_any (λ n. f n || (is_open n P && is_due n P)) xs ≡ false → list_any (is_claimed P) xs ≡ false

@@ -2,5 +2,6 @@ pub mod Known
 pub mod Turns
 pub mod Judged
 pub mod Offered
+pub mod Asked
 pub mod Groups
 pub mod Growing

@@ -1,8 +1,10 @@
 -- What a step is to do, as the running state says it, and what came of it. P has the newest entry first.
-use Rattle.std.specs.Prelude.{◌≡◌, ◌<◌, ◌^◌, ◌+◌, ◌-◌, ℕ, Bool, true, false, List, ◌∷◌, Option, None, Some, Result, Ok, Err, length, slice_get, slice_set}
+use Rattle.std.specs.Prelude.{◌≡◌, ◌<◌, ◌^◌, ◌+◌, ◌-◌, ℕ, Bool, true, false, List, ◌∷◌, Option, None, Some, Result, Ok, Err, if◌then◌else◌, length, slice_get, slice_set}
 use Rattle.mid_base.specs.declared.answers.Answer.{Answer}
 use Rattle.mid_base.specs.declared.answers.BusyOf.{BusyOf}
 use Rattle.mid_base.specs.declared.answers.BusyOf.TheVariants as of
+use Rattle.mid_base.specs.declared.answers.By.{By}
+use Rattle.mid_base.specs.declared.answers.By.TheVariants.{Answer as ByAnswer, Expiry as ByExpiry}
 use Rattle.mid_base.specs.declared.answers.Disp.{Disp}
 use Rattle.mid_base.specs.declared.answers.Disp.TheVariants as disps
 use Rattle.mid_base.specs.declared.answers.TagState.{TagState}
@@ -17,14 +19,18 @@ use Rattle.mid_base.specs.declared.names.LaneNo.{LaneNo}
 use Rattle.mid_base.specs.declared.names.Tag.{Tag}
 use Rattle.mid_base.specs.declared.steps.Step.TheVariants as step
 use Rattle.mid_base.specs.declared.steps.Why.{Why}
+use Rattle.mid_base.specs.declared.steps.Why.TheVariants.{NotReady, NotDue}
+use Rattle.mid_base.specs.Answers.{time_out}
 use Rattle.device_states.specs.States.{is_closed}
 use Rattle.host_template.specs.declared.queued.Queued.{Queued}
 use Rattle.host_template.specs.declared.queued.Queued.TheVariants.{Taken, HostBusy, DeviceBusy}
 use Rattle.host_template.specs.Standing.{Before, Standing}
 use Rattle.trace_model.specs.Attempts.{sends}
 use Rattle.trace_model.specs.Devices.{state, is_online, in_recovery}
+use Rattle.trace_model.specs.Judging.{has_abort_left, may_retry}
 use Rattle.trace_model.specs.Sending.{is_least_free}
 use Rattle.trace_model.specs.Steps.{barred}
+use Rattle.attempt_table.specs.declared.rows.Row.{Row}
 use Rattle.command_table.specs.CommandsAgree.{IsNext}
 use Rattle.host_state.specs.declared.running.Running.{Running}
 use Rattle.host_state.specs.Picks.{IsPicked}
@@ -109,3 +115,28 @@ follow_of c n a disps.Success = entry.Told c a
 follow_of c n a disps.Retry = entry.Again c true
 follow_of c n a disps.Requeue = entry.Again c false
 follow_of c n a disps.Fail = entry.Failed c n false
+
+-- the attempt of this row can belong to this owner, once it is open
+abbrev pub has_cause : By → Row → Bool
+has_cause ByAnswer r = r.answered
+has_cause ByExpiry r = r.due
+
+abbrev pub why_not : By → Why
+why_not ByAnswer = NotReady
+why_not ByExpiry = NotDue
+
+-- what the lower layer said of an attempt whose time is up
+abbrev pub IsSaidOf : Attempt → Entry → Type 0
+IsSaidOf n (entry.Due m) = m ≡ n
+IsSaidOf n (entry.Longer m) = m ≡ n
+IsSaidOf n (entry.DoneSaid m) = m ≡ n
+IsSaidOf n e = ⊥
+
+-- what is made of an attempt that its expired timer owns
+abbrev pub after_expiry : HostSpec → List Entry → CmdId → Attempt → Entry
+after_expiry s P c n = if has_abort_left s P c.0 then entry.AbortSet c n else entry.Failed c n true
+
+-- what follows an abort
+abbrev pub after_abort : HostSpec → List Entry → CmdId → Attempt → Bool → Entry
+after_abort s P c n true = if may_retry s P c.0 then entry.Again c true else entry.Told c time_out
+after_abort s P c n false = entry.Failed c n true

@@ -1,6 +1,5 @@
 -- What contracts see of a core, and what always holds of one.
 use Rattle.std.specs.Prelude.{ℕ, List}
-use Rattle.mid_base.specs.declared.answers.By.TheVariants.{Answer as ByAnswer}
 use Rattle.mid_base.specs.declared.answers.TagState.{TagState}
 use Rattle.mid_base.specs.declared.entries.Entry.{Entry}
 use Rattle.mid_base.specs.declared.host_spec.HostSpec.{HostSpec}
@@ -32,8 +31,11 @@ abbrev pub IsBuilt : Step → Type 0
 IsBuilt (step.Submit lane) = Unit {0}
 IsBuilt step.Send = Unit {0}
 IsBuilt step.Work = Unit {0}
-IsBuilt (step.Own n ByAnswer) = Unit {0}
+IsBuilt step.Due = Unit {0}
+IsBuilt (step.Own n by) = Unit {0}
 IsBuilt (step.Settle n) = Unit {0}
+IsBuilt (step.Drop n) = Unit {0}
+IsBuilt step.Abort = Unit {0}
 IsBuilt step.Tick = Unit {0}
 IsBuilt (step.SetState dev state) = Unit {0}
 IsBuilt s = ⊥

@@ -3,12 +3,15 @@
 //! Whatever steps are made, in whatever order and over whatever lower layer, the journal stays legal and the lower layer
 //! stands where the journal leaves it.
 //!
-//! A step finds out by the running state whether it is enabled and what it is to do (`choosing`, `judging`); then it takes all
+//! A step finds out by the running state whether it is enabled and what it is to do (`choosing`, `judging`, `expiring`); then it takes all
 //! its room, and from there on it can't fail.
 #![tactic(auto)]
 
+mod aborting;
 mod answering;
+mod asking;
 mod choosing;
+mod expiring;
 mod handing;
 mod judging;
 mod machine;

@@ -146,10 +146,10 @@ impl<A: HostTemplate> Core<A> {
     /// Makes one step.
     ///
     /// Done adds a group of entries that begins with an opener of the step. Skipped names the first condition of the step
-    /// that fails. Where there is room for one entry, Own and Tick take no memory, and at most that one place.
+    /// that fails. Where there is room for one entry, Own, Drop and Tick take no memory, and at most that one place.
     ///
-    /// The steps that there are as yet are Submit, Send, Work, Own by an answer, Settle, Tick and SetState. Those of
-    /// timeouts, of aborts and of recovery aren't made yet, so a host whose command failed stays in recovery.
+    /// The steps of recovery (EhBegin, EhAct, EhFlush and EhEnd) aren't made yet, so a host whose command failed stays in
+    /// recovery.
     pub fn step(&mut self, s: Step) -> Result<Did, NoMemory>
         requires { IsBuilt s }
         ensures answer { Answers A.stands A.is_due self.old self.new s result }
@@ -162,8 +162,11 @@ impl<A: HostTemplate> Core<A> {
             Step::Submit(lane) => self.submit(lane),
             Step::Send => self.send(),
             Step::Work => self.work(),
-            Step::Own(n, By::Answer) => self.own(n),
+            Step::Due => self.due(),
+            Step::Own(n, by) => self.own(n, by),
             Step::Settle(n) => self.settle(n),
+            Step::Drop(n) => self.drop_late(n),
+            Step::Abort => self.abort(),
             Step::Tick => self.tick(),
             Step::SetState(dev, state) => self.set_state(dev, state),
             _ => unreachable!(),

@@ -11,7 +11,8 @@ use Rattle.mid_base.specs.declared.answers.TagState.TheVariants.{Free, Armed, Ow
 use Rattle.timer_list.specs.Timers.{Timer}
 use Rattle.attempt_table.specs.AttemptsAgree.{AttemptsAgree}
 use Rattle.trace_model.specs.Commands.{is_busy}
-use Rattle.host_state.specs.HostAgrees.{is_timed_tag, count_tags}
+use Rattle.failure_table.specs.FailuresAgree.{Abort}
+use Rattle.host_state.specs.HostAgrees.{AreAborting, is_timed_tag, count_tags}
 use Rattle.host_state.proofs.Moving.{all_weaker, housed_in, lane_below, deep}
 use Rattle.host_state.proofs.running.Running.new.Goals as goal
 
@@ -61,9 +62,10 @@ returns c =
       early = omega (arith);
       few = subst (λ (n : ℕ). n < 2 ^ 60) told.0.sends_are (omega (arith));
       failures = c.in_ok-new-5.ensures.tells s c.requires.ids refl;
-      unaborted = c.in_ok-new-5.ensures.none.2;
       calm = refl;
-      by_answer = λ n. refl;
+      placed = λ n x at. absurd (false≢true ((told.0.rows n).0 ∙ ap is_some at));
+      aborting = subst (λ (xs : List Abort). AreAborting [] c.in_ok-new.field-0.rows.items xs) (sym c.in_ok-new-5.ensures.none.2) tt;
+      tagged = tt;
       under_way = λ n x at lives. absurd (false≢true ((told.0.rows n).0 ∙ ap is_some at));
       held_back = λ n m t busy. absurd (false≢true (ap is_busy busy));
     }

@@ -1,47 +1,51 @@
-use Rattle.std.proofs.Common.{◌≡◌, ◌∙◌, sym, ap, subst, refl, ℕ, ◌<◌, ◌^◌, Bool, cond, ◌∷◌, length, Option, Some}
+use Rattle.std.proofs.Common.{◌≡◌, ◌∙◌, sym, ap, subst, refl, ℕ, ◌<◌, ◌^◌, Bool, true, false, cond, List, ◌∷◌, length, Option, Some}
 use Rattle.std.specs.Prelude.{option_map}
 use Rattle.std.proofs.lemmas.Option.{same_Some, slice_get_within}
+use Rattle.mid_base.specs.declared.answers.By.TheVariants.{Answer as ByAnswer}
 use Rattle.mid_base.specs.declared.entries.Entry.TheVariants as entry
+use Rattle.tag_pool.specs.Tags.{is_out}
 use Rattle.trace_model.specs.declared.standing.Standing.{Standing}
-use Rattle.trace_model.specs.declared.standing.Standing.TheVariants.{Ended}
-use Rattle.trace_model.specs.Commands.{standing, is_busy}
-use Rattle.attempt_table.specs.Rows.{row_of, at_end, owned_in, tag_in, shown_in}
-use Rattle.attempt_table.proofs.Places.{rows_length}
-use Rattle.attempt_table.proofs.Told.{tells_apart}
+use Rattle.trace_model.specs.declared.standing.Standing.TheVariants.{Waits, Ended}
+use Rattle.trace_model.specs.Commands.{standing, is_busy, failed_since_sent}
+use Rattle.attempt_table.specs.Rows.{at_end, answer_in, settled_in}
+use Rattle.attempt_table.proofs.Places.{rows_length, row_here}
+use Rattle.attempt_table.proofs.Told.{answer_known, tells_apart, tells_again}
 use Rattle.command_table.specs.declared.rows.CommandRow.{CommandRow}
 use Rattle.command_table.specs.Rows.{is_open}
 use Rattle.command_table.proofs.Entries.{follows_apart}
-use Rattle.tag_pool.specs.Tags.{is_out}
-use Rattle.host_state.proofs.Ties.{same_ids, unheld}
-use Rattle.mid_base.specs.declared.answers.By.TheVariants.{Answer as ByAnswer}
-use Rattle.mid_base.specs.declared.answers.TagState.TheVariants as tag
-use Rattle.attempt_table.specs.declared.rows.Row.{Row}
-use Rattle.host_state.proofs.Timed.{timed_apart, timed_settled}
-use Rattle.host_state.proofs.Settled.{shown_owned, settles, settled_under_way, same_device}
+use Rattle.device_table.specs.declared.rows.DeviceRow.{DeviceRow}
 use Rattle.device_table.specs.DevicesAgree.{IsOf}
+use Rattle.device_table.proofs.Entries.{keeps_apart}
+use Rattle.failure_table.specs.FailuresAgree.{Abort}
 use Rattle.failure_table.proofs.Agree.{agrees_apart}
+use Rattle.failure_table.proofs.Entries.{out_parts}
+use Rattle.host_state.specs.HostAgrees.{AreAborting}
 use Rattle.host_state.proofs.Failing.{room_to_fail}
+use Rattle.host_state.proofs.Kept.{kept_moved, placed_moved, placed_at, aborting_apart, aborting_alike}
+use Rattle.host_state.proofs.Settled.{settles, under_way_of, settled_under_way, settled_timed, same_device, tag_freed, unscheduled}
+use Rattle.host_state.proofs.Ties.{same_ids, out_alike, unheld}
+use Rattle.host_state.proofs.Timed.{timed_apart}
 use Rattle.host_state.proofs.running.Running.report.Goals as goal
 
 pub row-device-requires : goal.row-device-requires
 row-device-requires c =
     let old = c.args.self.now in
     let asked = c.requires in
-    let owned = settles asked.spec asked.entries old asked.runs c.args.n c.args.row c.args.a asked.is in
+    let owned = settles asked.spec asked.entries old asked.runs c.args.n c.args.row ByAnswer asked.is in
     slice_get_within old.commands.rows.items c.args.row.place owned.command owned.at
 
 pub tell-requires-clause-open : goal.tell-requires-clause-open
 tell-requires-clause-open c =
     let old = c.args.self.now in
     let asked = c.requires in
-    let owned = settles asked.spec asked.entries old asked.runs c.args.n c.args.row c.args.a asked.is in
+    let owned = settles asked.spec asked.entries old asked.runs c.args.n c.args.row ByAnswer asked.is in
     ap (λ (o : Option CommandRow). option_map (λ (x : CommandRow). is_open x.standing) o) owned.at ∙ ap (λ (x : Standing). Some (is_open x)) owned.stands
 
 pub judged-requires : goal.judged-requires
 judged-requires c =
     let old = c.args.self.now in
     let asked = c.requires in
-    let owned = settles asked.spec asked.entries old asked.runs c.args.n c.args.row c.args.a asked.is in
+    let owned = settles asked.spec asked.entries old asked.runs c.args.n c.args.row ByAnswer asked.is in
     let same : c.row-device.result ≡ owned.command = same_Some c.row-device.result owned.command (sym c.row-device.ensures ∙ owned.at) in
     subst (λ (x : CommandRow). x.device < length old.devices.rows.items) (sym same)
     (slice_get_within old.devices.rows.items owned.command.device owned.device.row owned.device.row_at)
@@ -50,50 +54,67 @@ pub tell-requires-2 : goal.tell-requires-2
 tell-requires-2 c =
     let old = c.args.self.now in
     let asked = c.requires in
-    let owned = settles asked.spec asked.entries old asked.runs c.args.n c.args.row c.args.a asked.is in
+    let owned = settles asked.spec asked.entries old asked.runs c.args.n c.args.row ByAnswer asked.is in
     record { out = ap (is_out c.args.row.tag.0) c.judged.ensures.tags ∙ owned.out }
 
 pub tell-requires-3 : goal.tell-requires-3
 tell-requires-3 c =
     let old = c.args.self.now in
     let asked = c.requires in
-    let owned = settles asked.spec asked.entries old asked.runs c.args.n c.args.row c.args.a asked.is in
-    λ unlisted. (room_to_fail asked.spec asked.entries old.failures asked.runs.failures c.args.row.command owned.known owned.going).1
+    let owned = settles asked.spec asked.entries old asked.runs c.args.n c.args.row ByAnswer asked.is in
+    let going = (under_way_of asked.spec asked.entries old asked.runs c.args.n c.args.row ByAnswer asked.is).1 in
+    λ unlisted. (room_to_fail asked.spec asked.entries old.failures asked.runs.failures c.args.row.command owned.known going).1
 
 pub returns-clause-runs : goal.returns-clause-runs
 returns-clause-runs c s P d x r =
     let old = c.args.self.now in
+    let rows = old.attempts.rows.items in
     let n = c.args.n in
     let row = c.args.row in
     let a = c.args.a in
-    let owned = settles s P old r n row a c.requires.is in
+    let is = c.requires.is in
+    let live = under_way_of s P old r n row ByAnswer is in
+    let calm = out_parts row.command.0 P live.1 in
+    let owned = settles s P old r n row ByAnswer is in
     let same : c.row-device.result ≡ owned.command = same_Some c.row-device.result owned.command (sym c.row-device.ensures ∙ owned.at) in
     let of = subst (λ (x : CommandRow). IsOf s old.devices row.command x.device) (sym same) owned.device in
+    let answered = answer_known s P old.attempts r.attempts n.0 a (ap (answer_in old.attempts.kept.items) is.at ∙ c.requires.answer) in
     let J = entry.Judged row.command n d ∷ P in
-    let devices = c.judged.ensures.keeps s P row.command n d r.devices of owned.answered in
+    let last = entry.Told row.command x in
+    let devices = c.judged.ensures.keeps s P row.command n d r.devices of answered in
     let moves = c.settle.ensures.rows in
-    let few = subst (λ (k : ℕ). k < 2 ^ 60) (sym (rows_length n.0 at_end old.attempts.rows.items c.settle.new.self.rows.items moves)) r.few in
+    let few = subst (λ (k : ℕ). k < 2 ^ 60) (sym (rows_length n.0 at_end rows c.settle.new.self.rows.items moves)) r.few in
     let attempts = c.settle.ensures.tells s P (entry.Judged row.command n d) refl r.attempts in
+    let failures = agrees_apart s P old.failures (entry.Judged row.command n d) tt r.failures in
+    let deadlines = (timed_apart s J old.deadlines old.attempts.tags.items (timed_apart s P old.deadlines old.attempts.tags.items r.timed (entry.Judged row.command n d) tt) last tt).agrees in
+    let kept = kept_moved n.0 at_end rows c.settle.new.self.rows.items moves (refl, refl, refl, λ has. has) in
+    let placed = placed_moved n.0 at_end rows c.settle.new.self.rows.items old.commands.rows.items moves (refl, refl, refl, λ has. has) r.placed in
     let commands = c.tell.ensures.follows s J row.command x owned.id (follows_apart s P old.commands (entry.Judged row.command n d) tt r.commands) in
+    let ids = same_ids s P (last ∷ J) old.commands c.tell.new.self r.commands commands in
     record {
       limits = r.limits;
-      attempts = tells_apart s J c.settle.new.self (entry.Told row.command x) tt attempts;
+      attempts = tells_apart s J c.settle.new.self last tt attempts;
       commands = commands;
       devices = c.tell-2.ensures.keeps s J row.command c.row-device.result.device n x devices (same_device s old.devices c.judged.new.self row.command c.row-device.result.device c.judged.ensures.rows of) owned.busy owned.alone owned.below;
-      timed =
-          rw c.settle.ensures.tags
-          (timed_settled s P old.deadlines old.attempts.tags.items r.timed (entry.Told row.command x ∷ J) (tag_in (row_of n.0 old.attempts.rows.items)).0 (tag.Owned n ByAnswer)
-          (c.settle.ensures.owned s P r.attempts ∙ ap (λ (x : Option Row). Some (shown_in n.0 x)) c.requires.is.at ∙ ap Some (shown_owned n row c.requires.is.owned c.requires.is.owner)) refl
-          (timed_apart s J old.deadlines old.attempts.tags.items (timed_apart s P old.deadlines old.attempts.tags.items r.timed (entry.Judged row.command n d) tt) (entry.Told row.command x) tt).agrees);
+      timed = settled_timed s P old r n row ByAnswer is (last ∷ J) c.settle.new.self.tags.items c.settle.ensures.tags deadlines;
       time = r.time;
       early = r.early;
       few = few;
-      failures = c.tell-3.ensures.tells s J x (agrees_apart s P old.failures (entry.Judged row.command n d) tt r.failures) owned.known (ap is_busy owned.busy) owned.unaborted;
-      unaborted = ap (λ (q : _). q.waiting) c.tell-3.ensures.rest.0 ∙ r.unaborted;
+      failures = c.tell-3.ensures.tells s J x failures owned.known (ap is_busy owned.busy) calm.2;
       calm = r.calm;
-      by_answer = r.by_answer;
       under_way =
-          settled_under_way s P (entry.Told row.command x ∷ J) old r n row a owned c.requires.is c.settle.new.self.rows.items moves (λ k isnt. (ap (λ (b : Bool). cond b Ended (standing k P)) isnt, refl))
-          c.tell.new.self.rows.items (same_ids s P (entry.Told row.command x ∷ J) old.commands c.tell.new.self r.commands commands);
-      held_back = unheld s J (entry.Told row.command x ∷ J) row.command.0 Ended refl (λ k. refl) (λ u. refl) (λ m. refl) r.held_back;
+          settled_under_way s P (last ∷ J) old r n row ByAnswer is c.settle.new.self.rows.items moves
+          (λ k isnt. let stands : standing k (last ∷ J) ≡ standing k P = ap (λ (b : Bool). cond b Ended (standing k P)) isnt in (stands, out_alike k P (last ∷ J) stands refl refl));
+      placed = placed_at c.settle.new.self.rows.items old.commands.rows.items c.tell.new.self.rows.items ids placed;
+      aborting =
+          subst (λ (xs : List Abort). AreAborting (last ∷ J) c.settle.new.self.rows.items xs) (sym (ap (λ (q : _). q.waiting) c.tell-3.ensures.rest.0))
+          (aborting_apart P (last ∷ J) rows c.settle.new.self.rows.items kept row.command.0 Ended (λ k. refl) old.failures.work.waiting
+          (unscheduled s P old r row.command.0 calm.2) r.aborting);
+      held_back = unheld s J (last ∷ J) row.command.0 Ended refl (λ k. refl) (λ u. refl) (λ m. refl) r.held_back;
+      tagged = r.tagged;
     }
+
+pub returns-clause-shown : goal.returns-clause-shown
+returns-clause-shown c =
+    let asked = c.requires in
+    tag_freed asked.spec asked.entries c.args.self.now asked.runs c.args.n c.args.row ByAnswer asked.is c.settle.new.self.tags.items c.settle.ensures.tags

@@ -1,7 +1,7 @@
 use Rattle.std.proofs.Common.{sym, subst, ◌<◌, ◌^◌, List, length}
 use Rattle.mid_base.specs.declared.answers.TagState.{TagState}
 use Rattle.attempt_table.specs.declared.rows.Row.{Row}
-use Rattle.host_state.specs.HostAgrees.{AreUnderWay, IsTimed}
+use Rattle.host_state.specs.HostAgrees.{AreUnderWay, ArePlaced, AreAborting, IsTimed}
 use Rattle.host_state.proofs.running.Running.reserve.Goals as goal
 
 pub returns-clause-same : goal.returns-clause-same
@@ -18,9 +18,10 @@ returns-clause-same c s P r =
       early = r.early;
       few = subst (λ (xs : List Row). length xs < 2 ^ 60) (sym same.rows) r.few;
       failures = r.failures;
-      unaborted = r.unaborted;
       calm = r.calm;
-      by_answer = r.by_answer;
-      under_way = subst (λ (xs : List Row). AreUnderWay P xs old.commands.rows.items) (sym same.rows) r.under_way;
+      placed = subst (λ (xs : List Row). ArePlaced xs old.commands.rows.items) (sym same.rows) r.placed;
+      aborting = subst (λ (xs : List Row). AreAborting P xs old.failures.work.waiting) (sym same.rows) r.aborting;
+      tagged = r.tagged;
+      under_way = subst (λ (xs : List Row). AreUnderWay P xs) (sym same.rows) r.under_way;
       held_back = r.held_back;
     }

@@ -1,4 +1,4 @@
-use Rattle.std.proofs.Common.{◌≡◌, ◌∙◌, sym, ap, subst, refl, ℕ, ◌+◌, ◌<◌, ◌^◌, ◌∷◌, length}
+use Rattle.std.proofs.Common.{◌≡◌, ◌∙◌, sym, ap, subst, refl, ℕ, ◌+◌, ◌<◌, ◌^◌, List, ◌∷◌, length, Some}
 use Rattle.std.specs.Prelude.{slice_set}
 use Rattle.mid_base.specs.declared.answers.TagState.TheVariants as tag
 use Rattle.mid_base.specs.declared.entries.Entry.TheVariants as entry
@@ -19,8 +19,11 @@ use Rattle.host_state.proofs.Ties.{command_stands, of_device, same_ids}
 use Rattle.deadline_table.proofs.Changes.{unsent_is_idle}
 use Rattle.attempt_table.proofs.Places.{row_new}
 use Rattle.host_state.proofs.Timed.{never_sent, room_for, timed_sent}
-use Rattle.host_state.proofs.Going.{goes_online, room_online, free_is, one_more, sent_under_way, held_once}
+use Rattle.host_state.proofs.Going.{goes_online, room_online, free_is, one_more, sent_under_way, sent_aborting, held_once}
 use Rattle.host_state.proofs.Failing.{id_known, room_to_send}
+use Rattle.failure_table.specs.FailuresAgree.{Abort}
+use Rattle.host_state.specs.HostAgrees.{AreAborting}
+use Rattle.host_state.proofs.Kept.{kept_pushed, placed_at, placed_pushed}
 use Rattle.host_state.proofs.running.Running.send.Goals as goal
 
 pub take_tag-tag-requires : goal.take_tag-tag-requires
@@ -69,7 +72,8 @@ returns-clause-runs c s P id is timeout r =
     let of = subst (λ (x : CmdId). IsOf s old.devices x row.device) id_of (of_device s P old.commands old.devices r.commands r.devices c.args.place row at) in
     let told = c.send-attempt.ensures.tells s P r.attempts in
     let commands = c.send-3.ensures.follows s P id is r.commands in
-    let sent : Entry = entry.Sent id n t in (
+    let sent : Entry = entry.Sent id n t in
+    let ids = same_ids s P (sent ∷ P) old.commands c.send-3.new.self r.commands commands in (
       least.0,
       record {
         limits = r.limits;
@@ -85,12 +89,15 @@ returns-clause-runs c s P id is timeout r =
         early = r.early;
         few = subst (λ (k : ℕ). k < 2 ^ 60) (sym (one_more rows c.send-attempt.new.self.rows.items _ c.send-attempt.ensures.rows)) c.requires.can.few;
         failures = c.send-2.ensures.tells s P id n t r.failures known (ap is_busy waiting) (never_sent s P old r n one);
-        unaborted = ap (λ (q : _). q.waiting) c.send-2.ensures.rest.0 ∙ r.unaborted;
         calm = r.calm;
-        by_answer = r.by_answer;
-        under_way =
-            sent_under_way s P old r id n t one waiting least.0 least.1 _ c.send-attempt.new.self.rows.items c.send-3.new.self.rows.items c.send-attempt.ensures.rows id_of refl is
-            (same_ids s P (sent ∷ P) old.commands c.send-3.new.self r.commands commands);
+        placed =
+            placed_pushed rows _ c.send-attempt.new.self.rows.items c.send-3.new.self.rows.items c.send-attempt.ensures.rows (ids c.args.place ∙ is ∙ ap Some (sym id_of))
+            (placed_at rows old.commands.rows.items c.send-3.new.self.rows.items ids r.placed);
+        aborting =
+            subst (λ (xs : List Abort). AreAborting (sent ∷ P) c.send-attempt.new.self.rows.items xs) (sym (ap (λ (q : _). q.waiting) c.send-2.ensures.rest.0))
+            (sent_aborting s P old r id n t one waiting least.0 least.1 c.send-attempt.new.self.rows.items (kept_pushed rows _ c.send-attempt.new.self.rows.items c.send-attempt.ensures.rows));
+        tagged = (least.1, r.tagged);
+        under_way = sent_under_way s P old r id n t one waiting least.0 least.1 _ c.send-attempt.new.self.rows.items c.send-attempt.ensures.rows id_of refl;
         held_back = held_once s P old r id n t one waiting least.0 least.1;
       },
     )

@@ -21,11 +21,13 @@ use Rattle.device_table.specs.DevicesAgree.{IsOf}
 use Rattle.host_state.proofs.Ties.{command_stands, of_device, holds_alone, unheld}
 use Rattle.deadline_table.proofs.Changes.{unsent_is_idle}
 use Rattle.attempt_table.proofs.Told.{live_tag_is_shown}
-use Rattle.host_state.specs.HostAgrees.{IsTimed}
+use Rattle.host_state.specs.HostAgrees.{AreAborting, IsTimed}
 use Rattle.host_state.proofs.Timed.{never_sent, room_for, timed_sent, timed_stopped}
-use Rattle.host_state.proofs.Going.{goes_online, room_online, free_is, one_more, bounced_under_way, held_once, is_sent, set_back}
-use Rattle.failure_table.specs.FailuresAgree.{FailuresAgree, knows, is_out}
-use Rattle.host_state.proofs.Failing.{id_known, room_to_send, one_can_end, sent_is_out}
+use Rattle.host_state.proofs.Going.{goes_online, room_online, free_is, one_more, bounced_under_way, bounced_aborting, held_once, is_sent, set_back}
+use Rattle.failure_table.specs.FailuresAgree.{Abort, FailuresAgree, knows, is_out}
+use Rattle.failure_table.proofs.Entries.{sent_is_out}
+use Rattle.host_state.proofs.Failing.{id_known, room_to_send, one_can_end}
+use Rattle.host_state.proofs.Kept.{kept_pushed, kept_moved, kept_then, placed_moved, placed_pushed}
 use Rattle.host_state.proofs.running.Running.send_in_vain.Goals as goal
 
 pub take_tag-tag-requires : goal.take_tag-tag-requires
@@ -102,7 +104,7 @@ returns-clause-runs c s P id is timeout r =
     let shows = live_tag_is_shown s Q c.send-attempt.new.self sent n.0 (ap live_in last) ∙ ap (λ (o : Option Row). Some (shown_in n.0 o)) last in
     let busy : standing id.0 (entry.Sent id n t ∷ P) ≡ Busy n t = is_sent s P old r id n t one waiting least.0 least.1 in
     let held = held_once s P old r id n t one waiting least.0 least.1 in
-    let going = sent_is_out s P old r id n t waiting in
+    let going = sent_is_out s P old.failures.queue.failed old.failures.queue.busy old.failures.work.waiting r.failures.says id (ap is_busy waiting) n t in
     let of_now : IsOf s c.take_tag-tag.new.self id row.device = record {
       command = of.command;
       place = of.place;
@@ -134,9 +136,17 @@ returns-clause-runs c s P id is timeout r =
             subst (λ (x : CmdId). FailuresAgree s (entry.Bounced x n c.args.why ∷ Q) c.bounce-3.new.self) id_of
             (c.bounce-3.ensures.tells s Q n c.args.why (c.send-2.ensures.tells s P id n t r.failures known (ap is_busy waiting) (never_sent s P old r n one))
             (subst (λ (x : CmdId). knows s x.0 ≡ true) (sym id_of) known) (subst (λ (x : CmdId). is_out x.0 Q ≡ true) (sym id_of) going));
-        unaborted = ap (λ (q : _). q.waiting) (c.bounce-3.ensures.rest.0 ∙ c.send-2.ensures.rest.0) ∙ r.unaborted;
         calm = r.calm;
-        by_answer = r.by_answer;
+        placed =
+            placed_moved n.0 turned_away c.send-attempt.new.self.rows.items c.bounce.new.self.rows.items old.commands.rows.items c.bounce.ensures.rows (refl, refl, refl, λ has. has)
+            (placed_pushed rows _ c.send-attempt.new.self.rows.items old.commands.rows.items c.send-attempt.ensures.rows (is ∙ ap Some (sym id_of)) r.placed);
+        aborting =
+            subst (λ (xs : List Abort). AreAborting (entry.Bounced id n c.args.why ∷ Q) c.bounce.new.self.rows.items xs)
+            (sym (ap (λ (q : _). q.waiting) (c.bounce-3.ensures.rest.0 ∙ c.send-2.ensures.rest.0)))
+            (bounced_aborting s P old r id n t one waiting least.0 least.1 c.args.why c.bounce.new.self.rows.items
+            (kept_then rows c.send-attempt.new.self.rows.items c.bounce.new.self.rows.items (kept_pushed rows _ c.send-attempt.new.self.rows.items c.send-attempt.ensures.rows)
+            (kept_moved n.0 turned_away c.send-attempt.new.self.rows.items c.bounce.new.self.rows.items c.bounce.ensures.rows (refl, refl, refl, λ has. has))));
+        tagged = (least.1, r.tagged);
         under_way =
             bounced_under_way s P old r id n t one waiting least.0 least.1 _ c.send-attempt.new.self.rows.items c.bounce.new.self.rows.items c.args.why c.send-attempt.ensures.rows refl c.bounce.ensures.rows;
         held_back = unheld s (entry.Sent id n t ∷ P) (entry.Bounced id n c.args.why ∷ entry.Sent id n t ∷ P) id.0 Waits refl (λ d. refl) (λ u. refl) (λ m. refl) held;

@@ -3,6 +3,7 @@ use Rattle.attempt_table.proofs.Told.{tells_apart}
 use Rattle.command_table.proofs.Entries.{follows_apart}
 use Rattle.host_state.proofs.Timed.{timed_apart}
 use Rattle.failure_table.proofs.Agree.{agrees_apart}
+use Rattle.host_state.proofs.Kept.{aborting_still}
 use Rattle.host_state.proofs.running.Running.set_state.Goals as goal
 
 pub returns-clause-runs : goal.returns-clause-runs
@@ -18,9 +19,10 @@ returns-clause-runs c s P d is r =
       early = r.early;
       few = r.few;
       failures = agrees_apart s P old.failures (entry.State d c.args.state) tt r.failures;
-      unaborted = r.unaborted;
       calm = r.calm;
-      by_answer = r.by_answer;
+      placed = r.placed;
+      aborting = aborting_still P (entry.State d c.args.state ∷ P) old.attempts.rows.items (λ k. refl) old.failures.work.waiting r.aborting;
+      tagged = r.tagged;
       under_way = r.under_way;
       held_back = r.held_back;
     }

@@ -4,10 +4,12 @@ use Rattle.trace_model.specs.declared.standing.Standing.TheVariants.{New, Waits}
 use Rattle.trace_model.specs.Commands.{standing, is_busy}
 use Rattle.attempt_table.proofs.Told.{tells_apart}
 use Rattle.device_table.proofs.Entries.{not_busy_took}
-use Rattle.host_state.proofs.Ties.{stands_at, command_stands, idle_under_way, unheld, same_ids, still_under_way}
+use Rattle.host_state.proofs.Ties.{stands_at, command_stands, idle_under_way, unheld, same_ids}
 use Rattle.std.proofs.lemmas.Result.{on_ok_weaker, on_err_weaker}
 use Rattle.host_state.proofs.Timed.{timed_apart}
-use Rattle.host_state.proofs.Failing.{idle_took}
+use Rattle.host_state.proofs.Failing.{idle_took, idle_unaborted}
+use Rattle.host_state.proofs.Kept.{kept_same, placed_at, aborting_apart}
+use Rattle.host_state.proofs.Settled.{unscheduled}
 use Rattle.host_state.proofs.running.Running.take.Goals as goal
 
 pub returns-clause-runs : goal.returns-clause-runs
@@ -26,12 +28,13 @@ returns-clause-runs c =
       early = r.early;
       few = r.few;
       failures = idle_took s P old.failures id idle r.failures;
-      unaborted = r.unaborted;
       calm = r.calm;
-      by_answer = r.by_answer;
-      under_way =
-          idle_under_way P (entry.Took id ∷ P) old.attempts.rows.items old.commands.rows.items c.take.new.self.rows.items id.0 Waits idle (λ d. refl) (λ d. refl)
-          (same_ids s P (entry.Took id ∷ P) old.commands c.take.new.self r.commands (follows s P id is r.commands)) r.under_way;
+      placed = placed_at old.attempts.rows.items old.commands.rows.items c.take.new.self.rows.items (same_ids s P (entry.Took id ∷ P) old.commands c.take.new.self r.commands (follows s P id is r.commands)) r.placed;
+      aborting =
+          aborting_apart P (entry.Took id ∷ P) old.attempts.rows.items old.attempts.rows.items (kept_same old.attempts.rows.items old.attempts.rows.items refl) id.0 Waits (λ d. refl) old.failures.work.waiting
+          (unscheduled s P old r id.0 (idle_unaborted s P old.failures r.failures id.0 idle)) r.aborting;
+      tagged = r.tagged;
+      under_way = idle_under_way P (entry.Took id ∷ P) old.attempts.rows.items id.0 Waits idle (λ d. refl) (λ d. refl) (λ d. refl) r.under_way;
       held_back = unheld s P (entry.Took id ∷ P) id.0 Waits refl (λ d. refl) (λ u. refl) (λ n. refl) r.held_back;
     }) c.take.ensures.follows
 
@@ -48,9 +51,10 @@ returns-clause-same c =
       early = r.early;
       few = r.few;
       failures = r.failures;
-      unaborted = r.unaborted;
       calm = r.calm;
-      by_answer = r.by_answer;
-      under_way = still_under_way s P old.attempts.rows.items old.commands c.take.new.self r.commands (same s P r.commands) r.under_way;
+      placed = placed_at old.attempts.rows.items old.commands.rows.items c.take.new.self.rows.items (same_ids s P P old.commands c.take.new.self r.commands (same s P r.commands)) r.placed;
+      aborting = r.aborting;
+      tagged = r.tagged;
+      under_way = r.under_way;
       held_back = r.held_back;
     }) c.take.ensures.same

@@ -5,6 +5,7 @@ use Rattle.command_table.proofs.Entries.{follows_apart}
 use Rattle.deadline_table.proofs.Entries.{says_tick}
 use Rattle.deadline_table.proofs.Queries.{none_expired}
 use Rattle.failure_table.proofs.Agree.{agrees_apart}
+use Rattle.host_state.proofs.Kept.{aborting_still}
 use Rattle.host_state.proofs.running.Running.tick.Goals as goal
 
 pub returns-clause-runs : goal.returns-clause-runs
@@ -20,9 +21,10 @@ returns-clause-runs c s P none r =
       early = omega (arith, c.requires);
       few = r.few;
       failures = agrees_apart s P old.failures entry.Tick tt r.failures;
-      unaborted = r.unaborted;
       calm = r.calm;
-      by_answer = r.by_answer;
+      placed = r.placed;
+      aborting = aborting_still P (entry.Tick ∷ P) old.attempts.rows.items (λ k. refl) old.failures.work.waiting r.aborting;
+      tagged = r.tagged;
       under_way = r.under_way;
       held_back = r.held_back;
     }
