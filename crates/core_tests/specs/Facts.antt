@@ -1,14 +1,13 @@
 -- What a caller of a core's steps may build on.
 use Rattle.std.specs.Prelude.{◌≡◌, ℕ, ◌<◌, List, [], ◌∷◌, ◌++◌, All, reverse, Some, Result, Ok, slice_get, slice_set}
 use Rattle.mid_base.specs.declared.answers.By.{By}
-use Rattle.mid_base.specs.declared.answers.By.TheVariants.{Answer as ByAnswer}
 use Rattle.mid_base.specs.declared.answers.NoMemory.{NoMemory}
 use Rattle.mid_base.specs.declared.answers.TagState.TheVariants.{Free, Armed, Owned}
 use Rattle.mid_base.specs.declared.entries.Entry.{Entry}
 use Rattle.mid_base.specs.declared.entries.Entry.TheVariants.{Sent, Bounced, Told}
 use Rattle.mid_base.specs.declared.names.Attempt.{Attempt}
 use Rattle.mid_base.specs.declared.steps.Step.{Step}
-use Rattle.mid_base.specs.declared.steps.Step.TheVariants.{Submit, Work, Tick, SetState}
+use Rattle.mid_base.specs.declared.steps.Step.TheVariants.{Submit, Work, Due, Drop, Abort, Tick, SetState}
 use Rattle.mid_base.specs.declared.steps.Did.{Did}
 use Rattle.mid_base.specs.declared.steps.Did.TheVariants.{Done}
 use Rattle.trace_model.specs.Attempts.{attempts}
@@ -44,9 +43,9 @@ Sends g old new = ⊥
 abbrev pub SendsOne : {A : Type 0} → CoreView A → CoreView A → Type 0
 SendsOne old new = (g : List Entry) × (new.journal ≡ old.journal ++ g) × Sends g old new
 
--- one tag that was armed with n is owned by its answer, and the others are as they were
-abbrev pub Owns : {A : Type 0} → CoreView A → CoreView A → Attempt → Type 0
-Owns old new n = (t : ℕ) × (slice_get old.tags t ≡ Some (Armed n)) × (new.tags ≡ slice_set old.tags t (Owned n ByAnswer))
+-- one tag that was armed with n is owned by this side, and the others are as they were
+abbrev pub Owns : {A : Type 0} → CoreView A → CoreView A → Attempt → By → Type 0
+Owns old new n by = (t : ℕ) × (slice_get old.tags t ≡ Some (Armed n)) × (new.tags ≡ slice_set old.tags t (Owned n by))
 
 -- one tag on which n was owned is free, and the others are as they were
 abbrev pub Frees : {A : Type 0} → CoreView A → CoreView A → Attempt → Type 0
@@ -56,6 +55,9 @@ Frees old new n = (t : ℕ) × (by : By) × (slice_get old.tags t ≡ Some (Owne
 abbrev pub MovesNoTag : Step → Type 0
 MovesNoTag (Submit lane) = Unit {0}
 MovesNoTag Work = Unit {0}
+MovesNoTag Due = Unit {0}
+MovesNoTag (Drop n) = Unit {0}
+MovesNoTag Abort = Unit {0}
 MovesNoTag Tick = Unit {0}
 MovesNoTag (SetState dev state) = Unit {0}
 MovesNoTag step = ⊥

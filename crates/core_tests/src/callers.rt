@@ -16,13 +16,13 @@ pub fn sent<A: HostTemplate>(core: &mut Core<A>) -> Result<Did, NoMemory>
     core.step(Step::Send)
 }
 
-/// Gives an attempt to its answer. Where that is done, one tag that was armed with the attempt is owned, and no other tag
-/// has changed.
-pub fn gave_to_answer<A: HostTemplate>(core: &mut Core<A>, n: Attempt) -> Result<Did, NoMemory>
+/// Gives an attempt to its answer, or to its expired timer. Where that is done, one tag that was armed with the attempt is
+/// owned, and no other tag has changed.
+pub fn gave<A: HostTemplate>(core: &mut Core<A>, n: Attempt, by: By) -> Result<Did, NoMemory>
     ensures grows { Grows core.old core.new }
-    ensures owns { WhereDone result (Owns core.old core.new n) }
+    ensures owns { WhereDone result (Owns core.old core.new n by) }
 {
-    core.step(Step::Own(n, By::Answer))
+    core.step(Step::Own(n, by))
 }
 
 /// Settles an attempt. Where that is done, one tag that was owned is free, and no other tag has changed.

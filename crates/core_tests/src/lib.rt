@@ -20,8 +20,10 @@ mod row_tests;
 mod step_tests;
 #[cfg(test)]
 mod test_cores;
+#[cfg(test)]
+mod timeout_tests;
 
-pub use callers::{gave_to_answer, made_no_tag_step, sent, settled};
+pub use callers::{gave, made_no_tag_step, sent, settled};
 pub use hosts::{
     command, one_command_host, read_first_block, simulated_core, test_unit_ready, unit,
 };

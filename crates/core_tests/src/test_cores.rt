@@ -1,5 +1,5 @@
 use crate::{
-    command, gave_to_answer, keeps_limits, made_no_tag_step, read_first_block, sent, settled,
+    command, gave, keeps_limits, made_no_tag_step, read_first_block, sent, settled,
     simulated_core, test_unit_ready, unit,
 };
 use bitflags::Flags;
@@ -135,8 +135,11 @@ pub(crate) fn make<A: HostTemplate>(core: &mut Core<A>, step: Step) -> Result<Di
         Step::Work => made_no_tag_step(core, Step::Work),
         Step::Tick => made_no_tag_step(core, Step::Tick),
         Step::SetState(dev, state) => made_no_tag_step(core, Step::SetState(dev, state)),
+        Step::Due => made_no_tag_step(core, Step::Due),
+        Step::Drop(n) => made_no_tag_step(core, Step::Drop(n)),
+        Step::Abort => made_no_tag_step(core, Step::Abort),
         Step::Send => sent(core),
-        Step::Own(n, By::Answer) => gave_to_answer(core, n),
+        Step::Own(n, by) => gave(core, n, by),
         Step::Settle(n) => settled(core, n),
         _ => Ok(Did::Skipped(Why::Spent)),
     }

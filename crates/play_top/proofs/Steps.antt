@@ -33,8 +33,11 @@ built_on : (h : HostSpec) (t : Step) → IsStepOn h t → IsBuilt t
 built_on h (step.Submit lane) is = tt
 built_on h step.Send is = tt
 built_on h step.Work is = tt
-built_on h (step.Own n owners.Answer) is = tt
+built_on h step.Due is = tt
+built_on h (step.Own n by) is = tt
 built_on h (step.Settle n) is = tt
+built_on h (step.Drop n) is = tt
+built_on h step.Abort is = tt
 built_on h step.Tick is = tt
 built_on h (step.SetState d x) is = tt
 built_on h t is = absurd is

@@ -10,6 +10,8 @@ mod rows;
 mod status;
 #[cfg(test)]
 mod tests;
+#[cfg(test)]
+mod timeout_rows;
 mod top;
 mod writing;
 

@@ -1,4 +1,5 @@
 use crate::rows::{ENDS, FIRST, PLAYED};
+use crate::timeout_rows::TIMEOUTS;
 use crate::{Status, play};
 use mid_io::{MemSink, MemSource};
 use std::alloc::Global;
@@ -24,6 +25,15 @@ fn scripts_are_played(rt: HostRuntime) -> Result<(), Fail> {
     for (script, text) in PLAYED {
         let (status, written) = ends(rt.alloc(), script, 0, 0)?;
         assert_eq!(rt; status, Status(0), "the status of {script}");
+        assert_eq!(rt; written.as_slice(), text.as_bytes(), "the text of {script}");
+    }
+    Ok(())
+}
+
+#[test]
+fn scripts_with_timeouts_are_played(rt: HostRuntime) -> Result<(), Fail> {
+    for (script, text) in TIMEOUTS {
+        let (_, written) = ends(rt.alloc(), script, 0, 0)?;
         assert_eq!(rt; written.as_slice(), text.as_bytes(), "the text of {script}");
     }
     Ok(())
