@@ -1,5 +1,6 @@
 -- The numbers that a heap holds, under a key n of its elements.
 use Rattle.std.proofs.Common.{◌≡◌, ◌∙◌, sym, ap, subst, refl, ℕ, zero, suc, ◌<◌, ◌≤◌, ◌==◌, Bool, true, false, not, ◌&&◌, ◌||◌, cond, List, [], ◌∷◌, length, get_or, arith, inl, inr}
+use Rattle.std.specs.Prelude.{Result, Ok, Err, IsOk, OnOk, IsSome, IfSome, Option, Some, None}
 use Rattle.std.specs.List.{list_any, filter, AllByRecursion, count_by}
 use Rattle.std.specs.List.Sorted.{IsPermutation}
 use Rattle.std.specs.Ordering.{nat_cmp, is_lt}
@@ -11,6 +12,10 @@ use Rattle.std.proofs.lemmas.List.Sums.{length-filter, count_by-le-length}
 and_none : (b : Bool) → b && false ≡ false
 and_none true = refl
 and_none false = refl
+
+pub at_ok : {T E P : Type 0} (r : Result T E) → IsOk r → OnOk r P → P
+at_ok (Ok x) is h = h
+at_ok (Err e) is h = absurd (false≢true is)
 
 module _ {X : Type 0} (n : X → ℕ) where
   -- some element of the list has this number
@@ -39,6 +44,14 @@ module _ {X : Type 0} (n : X → ℕ) where
 
   pub popped_held : (x : X) (xs ys : List X) → IsPermutation xs (x ∷ ys) → (j : ℕ) → (n x == j) ≡ false → holds j ys ≡ holds j xs
   popped_held x xs ys moves j isnt = sym (list_any-IsPermutation (λ y. n y == j) xs (x ∷ ys) moves ∙ ap (λ (b : Bool). b || holds j ys) isnt)
+
+  -- the first was taken away, and had this number
+  pub popped_first : (xs ys : List X) (least : X) (top : Option X) (order j : ℕ) → 0 < length xs → least ≡ get_or xs 0 least → (n least == order) ≡ true → IsSome top
+      → IfSome top (λ x. x ≡ get_or xs 0 x) → IfSome top (λ x. IsPermutation xs (x ∷ ys)) → (order == j) ≡ false → holds j ys ≡ holds j xs
+  popped_first xs ys least None order j long first is some top moves isnt = absurd (false≢true some)
+  popped_first [] ys least (Some x) order j long first is some top moves isnt = absurd (omega (arith, long))
+  popped_first (z ∷ xs) ys least (Some x) order j long first is some top moves isnt =
+      popped_held x (z ∷ xs) ys moves j (ap (λ (k : ℕ). k == j) (ap n (top ∙ sym first) ∙ eqb-true (n least) order is) ∙ isnt)
 
   -- those of one number are taken away
   pub left_held : (order : ℕ) (xs : List X) (j : ℕ) → holds j (filter (λ x. not (n x == order)) xs) ≡ (not (order == j) && holds j xs)

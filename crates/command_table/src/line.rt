@@ -1,5 +1,6 @@
 ghost use Rattle.std.specs.Prelude.{◌≡◌, ◌<◌, ◌≤◌, ◌+◌, ◌==◌, ◌&&◌, ◌||◌, ◌-◌, ℕ, not, true, false, OnOk, OnErr, MatchOption};
 ghost use Rattle.std.specs.BinaryHeap.{IsHeap, heap_items, heap_len, heap_capacity};
+ghost use Rattle.std.specs.List.{list_any};
 ghost use Rattle.std.specs.Ordering.{nat_cmp};
 ghost use Rattle.std.proofs.Props.{props};
 
@@ -49,10 +50,8 @@ impl Line {
         ensures out { self.new.out ≡ self.old.out }
     {
         self.orders.reserve(self.out + 1).map_err(|_| NoMemory)?;
-        match self.orders.push(Reverse(order)) {
-            Ok(()) => Ok(()),
-            Err(_) => Err(NoMemory),
-        }
+        push_reserved(&mut self.orders, order);
+        Ok(())
     }
 
     // One that waits is sent, and its place is kept for it.
@@ -74,7 +73,7 @@ impl Line {
     {
         if self.out > 0 {
             self.out -= 1;
-            let _ = self.orders.push(Reverse(order));
+            push_reserved(&mut self.orders, order);
         }
     }
 
@@ -130,4 +129,15 @@ impl Line {
         }
         self.orders.retain(|waiting| waiting.0 != order);
     }
+}
+
+// Puts a number into a heap that has a free place.
+fn push_reserved(orders: &mut BinaryHeap<Reverse<usize>>, order: usize)
+    requires { heap_len orders.old < heap_capacity orders.old }
+    ensures held { (j : ℕ) → list_any (λ x. x.0 == j) (heap_items orders.new) ≡ ((order == j) || list_any (λ x. x.0 == j) (heap_items orders.old)) }
+    ensures heap_order { IsHeap (λ x y. nat_cmp y.0 x.0) (heap_items orders.old) → IsHeap (λ x y. nat_cmp y.0 x.0) (heap_items orders.new) }
+    ensures count { heap_len orders.new ≡ heap_len orders.old + 1 }
+    ensures capacity { heap_capacity orders.old ≤ heap_capacity orders.new }
+{
+    let _ = orders.push(Reverse(order));
 }
