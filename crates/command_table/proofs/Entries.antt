@@ -1,7 +1,7 @@
 -- What each entry changes.
 use Rattle.std.proofs.Common.{◌≡◌, ◌≢◌, ◌∙◌, sym, ap, subst, refl, ℕ, zero, suc, ◌+◌, ◌<◌, ◌≤◌, ◌==◌, ◌^◌, Bool, true, false, not, ◌&&◌, cond, List, [], ◌∷◌, ◌++◌, length, set, get_or, Option, Some, ◌⊎◌, arith, inl, inr}
 use Rattle.std.proofs.lemmas.List.{length-set}
-use Rattle.std.specs.Prelude.{slice_get, option_map, count_by, min, ◌-◌}
+use Rattle.std.specs.Prelude.{Result, Ok, Err, OnErr, slice_get, option_map, count_by, min, ◌-◌}
 use Rattle.std.proofs.lemmas.Bool.{cases_Bool, false≢true, eq-eqb, eqb-true, ne_eqb}
 use Rattle.std.proofs.lemmas.Option.{same_Some, none-some, slice_get_within, get_or_from_slice_get}
 use Rattle.std.proofs.lemmas.List.Sums.{sum_by-set, count_by-le-length}
@@ -314,6 +314,27 @@ alike s P Q t a b c d e f = record {
   ended = f.ended;
 }
 
+-- the rows, the cursors and what the lines say are the same
+pub same_table : (s : HostSpec) (P : List Entry) (old new : Commands) → new.rows.items ≡ old.rows.items → new.cursors.items ≡ old.cursors.items → new.taken.items ≡ old.taken.items
+    → length new.waiting.items ≡ length old.waiting.items → ((d j : ℕ) → has new.waiting.items d j ≡ has old.waiting.items d j)
+    → ((d : ℕ) → out_of new.waiting.items d ≡ out_of old.waiting.items d) → new.ended ≡ old.ended → CommandsAgree s P old → CommandsAgree s P new
+same_table s P old new rows cursors same_taken count waiting outs ended f = record {
+  rows_are = rw rows f.rows_are;
+  ids = f.ids;
+  lanes = rw rows f.lanes;
+  reads = rw rows f.reads;
+  pointed = rw (rows, cursors) f.pointed;
+  lane_count = ap length cursors ∙ f.lane_count;
+  order = f.order ∙ ap ids_of (sym same_taken);
+  ordered = rw (rows, same_taken) f.ordered;
+  placed = rw (rows, same_taken) f.placed;
+  housed = rw (rows, count) f.housed;
+  set_count = count ∙ f.set_count;
+  waiting = λ d j. rw (rows, same_taken) (waiting d j ∙ f.waiting d j);
+  out = λ d. rw rows (outs d ∙ f.out d);
+  ended = rw rows (ended ∙ f.ended);
+}
+
 pub follows_apart : (s : HostSpec) (P : List Entry) (t : Commands) (e : Entry) → IsApart e → CommandsAgree s P t → CommandsAgree s (e ∷ P) t
 follows_apart s P t (entry.Ready n a) apart f = alike s P (entry.Ready n a ∷ P) t (λ c. refl) (λ c. refl) (λ c. refl) (λ c. refl) refl f
 follows_apart s P t (entry.Owned n by) apart f = alike s P (entry.Owned n by ∷ P) t (λ c. refl) (λ c. refl) (λ c. refl) (λ c. refl) refl f
@@ -490,6 +511,10 @@ open_busy New h isnt = absurd (false≢true h)
 open_busy Waits h isnt = absurd (false≢true (sym isnt))
 open_busy (Busy n t) h isnt = refl
 open_busy Ended h isnt = absurd (false≢true h)
+
+pub at_err : {T E P : Type 0} (r : Result T E) → P → OnErr r P
+at_err (Ok x) h = tt
+at_err (Err e) h = h
 
 -- how the number of busy ones moves: b says whether the device is the command's
 pub out_sent : (busy b : Bool) (n m : ℕ) → busy ≡ false → m ≡ n + cond b 1 0 → m + cond (busy && b) 1 0 ≡ n + cond b 1 0

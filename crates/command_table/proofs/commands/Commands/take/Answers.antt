@@ -12,7 +12,7 @@ use Rattle.command_table.specs.Sets.{has, out_of}
 use Rattle.command_table.specs.declared.line.Line.{Line}
 use Rattle.command_table.proofs.Waiting.{newly_taken}
 use Rattle.command_table.proofs.commands.Commands.take.Goals as goal
-use Rattle.command_table.proofs.Entries.{Changes, reads_at, id_is, standing_is, handed_in, count_as, written_took, ids_push, ordered_taken, placed_taken, passed, pointed_on}
+use Rattle.command_table.proofs.Entries.{Changes, reads_at, id_is, standing_is, handed_in, count_as, same_table, at_err, written_took, ids_push, ordered_taken, placed_taken, passed, pointed_on}
 
 pub returns-clause-follows : goal.returns-clause-follows
 returns-clause-follows c s P id is f =
@@ -53,3 +53,11 @@ returns-clause-follows c s P id is f =
     ∙ sym (ap (λ (rs : List CommandRow). waits_at rs c.pass.new.self.taken.items d j) rows ∙ ap (λ (xs : List Taken). waits_at (set old.rows.items c.args.place q) xs d j) taken))
     (λ d. ap (λ (ws : List Line). out_of ws d) (rest.waiting ∙ kept.waiting) ∙ c.put.ensures.out d)
     (count_as old c.pass.new.self c.args.place r q ch f.ended (ap is_ended was) refl (rest.ended ∙ kept.ended)))
+
+pub returns-in_err-put-clause-same : goal.returns-in_err-put-clause-same
+returns-in_err-put-clause-same c =
+    at_err c.from_residual-in_err-put.result (λ s P f.
+    same_table s P c.args.self.now _ refl refl c.reserve.ensures.items c.put.ensures.count c.in_err-put.ensures.err c.put.ensures.out refl f)
+
+pub write-requires : goal.write-requires
+write-requires c = slice_get_within c.args.self.now.rows.items c.args.place c.row-row.result c.row-row.ensures
