@@ -1,7 +1,7 @@
 -- What each entry changes.
 use Rattle.std.proofs.Common.{◌≡◌, ◌≢◌, ◌∙◌, sym, ap, subst, refl, ℕ, zero, suc, ◌+◌, ◌<◌, ◌≤◌, ◌==◌, ◌^◌, Bool, true, false, not, ◌&&◌, cond, List, [], ◌∷◌, ◌++◌, length, set, get_or, Option, Some, ◌⊎◌, arith, inl, inr}
 use Rattle.std.proofs.lemmas.List.{length-set}
-use Rattle.std.specs.Prelude.{slice_get, option_map, count_by, min, ◌-◌}
+use Rattle.std.specs.Prelude.{Result, Ok, Err, OnErr, slice_get, option_map, count_by, min, ◌-◌}
 use Rattle.std.proofs.lemmas.Bool.{cases_Bool, false≢true, eq-eqb, eqb-true, ne_eqb}
 use Rattle.std.proofs.lemmas.Option.{same_Some, none-some, slice_get_within, get_or_from_slice_get}
 use Rattle.std.proofs.lemmas.List.Sums.{sum_by-set, count_by-le-length}
@@ -18,13 +18,13 @@ use Rattle.mid_base.specs.declared.host_spec.HostSpec.{HostSpec}
 use Rattle.mid_base.specs.Limits.{differ_in_id}
 use Rattle.trace_model.specs.declared.standing.Standing.{Standing}
 use Rattle.trace_model.specs.declared.standing.Standing.TheVariants.{New, Waits, Busy, Ended}
-use Rattle.trace_model.specs.Commands.{standing, retries, taken, is_new, waits, is_busy}
+use Rattle.trace_model.specs.Commands.{standing, retries, has_abort, taken, is_new, waits, is_busy}
 use Rattle.trace_model.specs.Drained.{was_told, tellings}
 use Rattle.command_table.specs.declared.rows.CommandRow.{CommandRow}
 use Rattle.command_table.specs.declared.rows.Taken.{Taken}
 use Rattle.command_table.specs.declared.commands.Commands.{Commands}
-use Rattle.command_table.specs.Rows.{row_of, is_ended, has_ended, is_open, AreFor, id_at, standing_at, IsBusyAt, IsOpenAt, is_left, first_left, IsFirstLeft, IsHoused, ids_of, waits_at}
-use Rattle.command_table.specs.Sets.{has}
+use Rattle.command_table.specs.Rows.{row_of, is_ended, has_ended, is_out, is_open, AreFor, id_at, standing_at, IsBusyAt, IsOpenAt, is_left, first_left, IsFirstLeft, IsHoused, ids_of, waits_at}
+use Rattle.command_table.specs.Sets.{has, out_of}
 use Rattle.command_table.specs.CommandsAgree.{Reads, IsOrdered, IsPlaced, ArePlaced, ArePointed, CommandsAgree, IsApart}
 use Rattle.command_table.proofs.Places.{at_place, row_set, for_set, get_set, first_set, before_first}
 
@@ -44,7 +44,7 @@ abbrev pub Written : List Entry → List Entry → CommandRow → CommandRow →
 Written P Q r new =
     (c : ℕ)
     → ((r.id.0 == c) ≡ true → Reads Q c (Some new))
-    × ((r.id.0 == c) ≡ false → (standing c Q ≡ standing c P) × (retries c Q ≡ retries c P) × (was_told c Q ≡ was_told c P))
+    × ((r.id.0 == c) ≡ false → (standing c Q ≡ standing c P) × (retries c Q ≡ retries c P) × (was_told c Q ≡ was_told c P) × (has_abort c Q ≡ has_abort c P))
 
 reads_written : (P Q : List Entry) (luns : List LunSpec) (ks : List CmdSpec) (rs : List CommandRow) → AreFor luns ks rs → differ_in_id ks ≡ true
     → (i : ℕ) (r new : CommandRow) → slice_get rs i ≡ Some r → new.id ≡ r.id → Written P Q r new
@@ -55,7 +55,7 @@ reads_written P Q luns ks rs are ids i r new at id written reads c =
       | inl is ↦ rw is ((written c).0 is)
       | inr isnt ↦
           let others = (written c).1 isnt in
-          rw isnt (others.0 ∙ (reads c).0, others.1 ∙ (reads c).1, others.2 ∙ (reads c).2)
+          rw isnt (others.0 ∙ (reads c).0, others.1 ∙ (reads c).1, others.2 ∙ (reads c).2, others.3 ∙ (reads c).3)
     ])
 
 -- the order of taking, where the row keeps its own
@@ -106,18 +106,25 @@ lanes_written rs i r new at lane lanes j q get =
       | inr isnt ↦ lanes j q (sym (rw isnt at (get_set rs i j r new at)) ∙ get)
     ]
 
-count_set : (rs : List CommandRow) (i : ℕ) (r new : CommandRow) → slice_get rs i ≡ Some r
-    → count_by has_ended (set rs i new) + cond (has_ended r) 1 0 ≡ count_by has_ended rs + cond (has_ended new) 1 0
-count_set rs i r new at =
-    let whole : count_by has_ended (set rs i new) + cond (has_ended (get_or rs i r)) 1 0 ≡ count_by has_ended rs + cond (has_ended new) 1 0 =
-    sum_by-set {X = CommandRow} (λ q. cond (has_ended q) 1 0) rs i new r (slice_get_within rs i r at)
+count_set : (p : CommandRow → Bool) (rs : List CommandRow) (i : ℕ) (r new : CommandRow) → slice_get rs i ≡ Some r
+    → count_by p (set rs i new) + cond (p r) 1 0 ≡ count_by p rs + cond (p new) 1 0
+count_set p rs i r new at =
+    let whole : count_by p (set rs i new) + cond (p (get_or rs i r)) 1 0 ≡ count_by p rs + cond (p new) 1 0 =
+    sum_by-set {X = CommandRow} (λ q. cond (p q) 1 0) rs i new r (slice_get_within rs i r at)
     in
-    subst (λ (q : CommandRow). count_by has_ended (set rs i new) + cond (has_ended q) 1 0 ≡ count_by has_ended rs + cond (has_ended new) 1 0) (get_or_from_slice_get rs i r r at) whole
+    subst (λ (q : CommandRow). count_by p (set rs i new) + cond (p q) 1 0 ≡ count_by p rs + cond (p new) 1 0) (get_or_from_slice_get rs i r r at) whole
+
+-- a number that moves as the count does stays the count
+count_moved : (p : CommandRow → Bool) (rs : List CommandRow) (i : ℕ) (r new : CommandRow) → slice_get rs i ≡ Some r
+    → (n m : ℕ) → n ≡ count_by p rs → m + cond (p r) 1 0 ≡ n + cond (p new) 1 0 → m ≡ count_by p (set rs i new)
+count_moved p rs i r new at n m counted moves =
+    let whole : count_by p (set rs i new) + cond (p r) 1 0 ≡ count_by p rs + cond (p new) 1 0 = count_set p rs i r new at in
+    omega (arith, whole, counted, moves)
 
 count_kept : (rs : List CommandRow) (i : ℕ) (r new : CommandRow) → slice_get rs i ≡ Some r → has_ended r ≡ false → has_ended new ≡ false
     → count_by has_ended (set rs i new) ≡ count_by has_ended rs
 count_kept rs i r new at one other =
-    let whole : count_by has_ended (set rs i new) + cond (has_ended r) 1 0 ≡ count_by has_ended rs + cond (has_ended new) 1 0 = count_set rs i r new at in
+    let whole : count_by has_ended (set rs i new) + cond (has_ended r) 1 0 ≡ count_by has_ended rs + cond (has_ended new) 1 0 = count_set has_ended rs i r new at in
     let less : ◌≡◌ {A = ℕ} (cond (has_ended r) 1 0) 0 = rw one refl in
     let more : ◌≡◌ {A = ℕ} (cond (has_ended new) 1 0) 0 = rw other refl in
     omega (arith, whole, less, more)
@@ -125,10 +132,21 @@ count_kept rs i r new at one other =
 count_more : (rs : List CommandRow) (i : ℕ) (r new : CommandRow) → slice_get rs i ≡ Some r → has_ended r ≡ false → has_ended new ≡ true
     → count_by has_ended (set rs i new) ≡ count_by has_ended rs + 1
 count_more rs i r new at one other =
-    let whole : count_by has_ended (set rs i new) + cond (has_ended r) 1 0 ≡ count_by has_ended rs + cond (has_ended new) 1 0 = count_set rs i r new at in
+    let whole : count_by has_ended (set rs i new) + cond (has_ended r) 1 0 ≡ count_by has_ended rs + cond (has_ended new) 1 0 = count_set has_ended rs i r new at in
     let less : ◌≡◌ {A = ℕ} (cond (has_ended r) 1 0) 0 = rw one refl in
     let more : ◌≡◌ {A = ℕ} (cond (has_ended new) 1 0) 1 = rw other refl in
     omega (arith, whole, less, more)
+
+-- how many are busy, by the lines, moves as the rows say
+abbrev pub OutsMove : Commands → Commands → CommandRow → CommandRow → Type 0
+OutsMove old new r q = (d : ℕ) → out_of new.waiting.items d + cond (is_out d r) 1 0 ≡ out_of old.waiting.items d + cond (is_out d q) 1 0
+
+-- a command that isn't handed in isn't busy
+new_idle : (x : Standing) → is_new x ≡ true → is_busy x ≡ false
+new_idle New h = refl
+new_idle Waits h = refl
+new_idle (Busy n t) h = absurd (false≢true h)
+new_idle Ended h = refl
 
 -- the table after a call: this row is written, and the rest is as given
 pub record Changes (old new : Commands) (i : ℕ) (r q : CommandRow) : Type 0 where
@@ -157,13 +175,16 @@ module _ (s : HostSpec) (P : List Entry) (old new : Commands) (i : ℕ) (r q : C
         | inr isnt ↦ rw same_count (f.housed j x (sym (rw isnt at (get_set old.rows.items i j r q ch.at)) ∙ sym (ap (λ (rs : List CommandRow). slice_get rs j) ch.rows) ∙ get))
       ]
 
+  outs_now : OutsMove old new r q → (d : ℕ) → out_of new.waiting.items d ≡ count_by (is_out d) new.rows.items
+  outs_now outs d = rw ch.rows (count_moved (is_out d) old.rows.items i r q ch.at (out_of old.waiting.items d) (out_of new.waiting.items d) (f.out d) (outs d))
+
   -- a command that is handed in already stands elsewhere
   pub moved : (Q : List Entry) → Written P Q r q → taken Q ≡ taken P → is_new r.standing ≡ false → is_new q.standing ≡ false
       → (q.standing ≢ New → is_ended q.standing ≡ false → slice_get old.taken.items q.order ≡ Some (record { place = i; command = q.id }))
       → q.order ≡ r.order → new.cursors.items ≡ old.cursors.items → new.taken.items ≡ old.taken.items
       → length new.waiting.items ≡ length old.waiting.items → ((d j : ℕ) → has new.waiting.items d j ≡ waits_at (set old.rows.items i q) old.taken.items d j)
-      → new.ended ≡ count_by has_ended new.rows.items → CommandsAgree s Q new
-  moved Q written order was is here same_order same_cursors same_taken same_count waiting ended = record {
+      → OutsMove old new r q → new.ended ≡ count_by has_ended new.rows.items → CommandsAgree s Q new
+  moved Q written order was is here same_order same_cursors same_taken same_count waiting outs ended = record {
     rows_are = rows_are_now;
     ids = f.ids;
     lanes = lanes_now;
@@ -176,6 +197,7 @@ module _ (s : HostSpec) (P : List Entry) (old new : Commands) (i : ℕ) (r q : C
     housed = housed_now same_count;
     set_count = same_count ∙ f.set_count;
     waiting = λ d j. rw (same_taken, ch.rows) (waiting d j);
+    out = outs_now outs;
     ended = ended;
   }
     where
@@ -183,12 +205,12 @@ module _ (s : HostSpec) (P : List Entry) (old new : Commands) (i : ℕ) (r q : C
       none_left lane = rw (was, is) (and_none (q.lane.0 == lane) ∙ sym (and_none (r.lane.0 == lane)))
 
   -- a command is handed in
-  pub handed_in : (Q : List Entry) → Written P Q r q → taken Q ≡ ids_of new.taken.items → is_new r.standing ≡ true → is_new q.standing ≡ false
+  pub handed_in : (Q : List Entry) → Written P Q r q → taken Q ≡ ids_of new.taken.items → is_new r.standing ≡ true → is_new q.standing ≡ false → is_busy q.standing ≡ false
       → IsOrdered new.rows.items new.taken.items → ArePlaced new.rows.items new.taken.items
       → new.cursors.items ≡ set old.cursors.items r.lane.0 (first_left r.lane.0 new.rows.items)
       → length new.waiting.items ≡ length old.waiting.items → ((d j : ℕ) → has new.waiting.items d j ≡ waits_at new.rows.items new.taken.items d j)
-      → new.ended ≡ count_by has_ended new.rows.items → CommandsAgree s Q new
-  handed_in Q written order was is ordered placed cursors same_count waiting ended = record {
+      → ((d : ℕ) → out_of new.waiting.items d ≡ out_of old.waiting.items d) → new.ended ≡ count_by has_ended new.rows.items → CommandsAgree s Q new
+  handed_in Q written order was is idle ordered placed cursors same_count waiting outs ended = record {
     rows_are = rows_are_now;
     ids = f.ids;
     lanes = lanes_now;
@@ -201,6 +223,7 @@ module _ (s : HostSpec) (P : List Entry) (old new : Commands) (i : ℕ) (r q : C
     housed = housed_now same_count;
     set_count = same_count ∙ f.set_count;
     waiting = waiting;
+    out = outs_now (λ d. rw (new_idle r.standing was, idle) (ap (λ (n : ℕ). n + 0) (outs d)));
     ended = ended;
   }
     where
@@ -219,37 +242,44 @@ module _ (s : HostSpec) (P : List Entry) (old new : Commands) (i : ℕ) (r q : C
 pub written_took : (P : List Entry) (r : CommandRow) (order : ℕ) → Reads P r.id.0 (Some r) → is_ended r.standing ≡ false
     → Written P (entry.Took r.id ∷ P) r (record r { standing = Waits; order = order })
 written_took P r order reads still c = (
-  λ is. subst (λ (d : ℕ). Reads (entry.Took r.id ∷ P) d (Some (record r { standing = Waits; order = order }))) (eqb-true r.id.0 c is) (rw (same r.id.0) refl, reads.1, reads.2 ∙ still),
-  λ isnt. (rw isnt refl, refl, refl),
+  λ is. subst (λ (d : ℕ). Reads (entry.Took r.id ∷ P) d (Some (record r { standing = Waits; order = order }))) (eqb-true r.id.0 c is) (rw (same r.id.0) refl, reads.1, reads.2 ∙ still, reads.3),
+  λ isnt. (rw isnt refl, refl, refl, refl),
 )
 
 pub written_sent : (P : List Entry) (r : CommandRow) (n : Attempt) (t : Tag) → Reads P r.id.0 (Some r) → is_ended r.standing ≡ false
     → Written P (entry.Sent r.id n t ∷ P) r (record r { standing = Busy n t })
 written_sent P r n t reads still c = (
-  λ is. subst (λ (d : ℕ). Reads (entry.Sent r.id n t ∷ P) d (Some (record r { standing = Busy n t }))) (eqb-true r.id.0 c is) (rw (same r.id.0) refl, reads.1, reads.2 ∙ still),
-  λ isnt. (rw isnt refl, refl, refl),
+  λ is. subst (λ (d : ℕ). Reads (entry.Sent r.id n t ∷ P) d (Some (record r { standing = Busy n t }))) (eqb-true r.id.0 c is) (rw (same r.id.0) refl, reads.1, reads.2 ∙ still, reads.3),
+  λ isnt. (rw isnt refl, refl, refl, refl),
 )
 
 pub written_again : (P : List Entry) (r : CommandRow) (counted : Bool) → Reads P r.id.0 (Some r) → is_ended r.standing ≡ false
     → Written P (entry.Again r.id counted ∷ P) r (record r { standing = Waits; retries = cond counted (r.retries + 1) r.retries })
 written_again P r true reads still c = (
-  λ is. subst (λ (d : ℕ). Reads (entry.Again r.id true ∷ P) d (Some (record r { standing = Waits; retries = r.retries + 1 }))) (eqb-true r.id.0 c is) (rw (same r.id.0) refl, rw (same r.id.0, reads.1) refl, reads.2 ∙ still),
-  λ isnt. (rw isnt refl, rw isnt refl, refl),
+  λ is. subst (λ (d : ℕ). Reads (entry.Again r.id true ∷ P) d (Some (record r { standing = Waits; retries = r.retries + 1 }))) (eqb-true r.id.0 c is) (rw (same r.id.0) refl, rw (same r.id.0, reads.1) refl, reads.2 ∙ still, reads.3),
+  λ isnt. (rw isnt refl, rw isnt refl, refl, refl),
 )
 written_again P r false reads still c = (
-  λ is. subst (λ (d : ℕ). Reads (entry.Again r.id false ∷ P) d (Some (record r { standing = Waits }))) (eqb-true r.id.0 c is) (rw (same r.id.0) refl, reads.1, reads.2 ∙ still),
-  λ isnt. (rw isnt refl, refl, refl),
+  λ is. subst (λ (d : ℕ). Reads (entry.Again r.id false ∷ P) d (Some (record r { standing = Waits }))) (eqb-true r.id.0 c is) (rw (same r.id.0) refl, reads.1, reads.2 ∙ still, reads.3),
+  λ isnt. (rw isnt refl, refl, refl, refl),
 )
 
 pub written_told : (P : List Entry) (r : CommandRow) (a : Answer) → Reads P r.id.0 (Some r)
     → Written P (entry.Told r.id a ∷ P) r (record r { standing = Ended })
 written_told P r a reads c = (
-  λ is. subst (λ (d : ℕ). Reads (entry.Told r.id a ∷ P) d (Some (record r { standing = Ended }))) (eqb-true r.id.0 c is) (rw (same r.id.0) refl, reads.1, now_told (same r.id.0) (tellings r.id.0 P)),
-  λ isnt. (rw isnt refl, refl, rw isnt refl),
+  λ is. subst (λ (d : ℕ). Reads (entry.Told r.id a ∷ P) d (Some (record r { standing = Ended }))) (eqb-true r.id.0 c is) (rw (same r.id.0) refl, reads.1, now_told (same r.id.0) (tellings r.id.0 P), reads.3),
+  λ isnt. (rw isnt refl, refl, rw isnt refl, refl),
 )
   where
     now_told : {b : Bool} → b ≡ true → (n : ℕ) → not (cond b (n + 1) n == 0) ≡ true
     now_told is n = rw (is, ne_eqb (n + 1) 0 (λ e. absurd (omega (arith, e)))) refl
+
+pub written_abort : (P : List Entry) (r : CommandRow) (n : Attempt) → Reads P r.id.0 (Some r)
+    → Written P (entry.AbortSet r.id n ∷ P) r (record r { aborted = true })
+written_abort P r n reads c = (
+  λ is. subst (λ (d : ℕ). Reads (entry.AbortSet r.id n ∷ P) d (Some (record r { aborted = true }))) (eqb-true r.id.0 c is) (reads.0, reads.1, reads.2, rw (same r.id.0) refl),
+  λ isnt. (refl, refl, refl, rw isnt refl),
+)
 
 pub count_as : (old new : Commands) (i : ℕ) (r q : CommandRow) → Changes old new i r q → old.ended ≡ count_by has_ended old.rows.items
     → has_ended r ≡ false → has_ended q ≡ false → new.ended ≡ old.ended → new.ended ≡ count_by has_ended new.rows.items
@@ -265,49 +295,70 @@ counts_on old new i r q ch counted one other short e =
 
 -- the words of both lists of entries on commands are the same
 alike : (s : HostSpec) (P Q : List Entry) (t : Commands)
-    → ((c : ℕ) → standing c Q ≡ standing c P) → ((c : ℕ) → retries c Q ≡ retries c P) → ((c : ℕ) → was_told c Q ≡ was_told c P) → taken Q ≡ taken P
+    → ((c : ℕ) → standing c Q ≡ standing c P) → ((c : ℕ) → retries c Q ≡ retries c P) → ((c : ℕ) → was_told c Q ≡ was_told c P) → ((c : ℕ) → has_abort c Q ≡ has_abort c P) → taken Q ≡ taken P
     → CommandsAgree s P t → CommandsAgree s Q t
-alike s P Q t a b c d f = record {
+alike s P Q t a b c d e f = record {
   rows_are = f.rows_are;
   ids = f.ids;
   lanes = f.lanes;
-  reads = λ n. (a n ∙ (f.reads n).0, b n ∙ (f.reads n).1, c n ∙ (f.reads n).2);
+  reads = λ n. (a n ∙ (f.reads n).0, b n ∙ (f.reads n).1, c n ∙ (f.reads n).2, d n ∙ (f.reads n).3);
   pointed = f.pointed;
   lane_count = f.lane_count;
-  order = d ∙ f.order;
+  order = e ∙ f.order;
   ordered = f.ordered;
   placed = f.placed;
   housed = f.housed;
   set_count = f.set_count;
   waiting = f.waiting;
+  out = f.out;
   ended = f.ended;
 }
 
+-- the rows, the cursors and what the lines say are the same
+pub same_table : (s : HostSpec) (P : List Entry) (old new : Commands) → new.rows.items ≡ old.rows.items → new.cursors.items ≡ old.cursors.items → new.taken.items ≡ old.taken.items
+    → length new.waiting.items ≡ length old.waiting.items → ((d j : ℕ) → has new.waiting.items d j ≡ has old.waiting.items d j)
+    → ((d : ℕ) → out_of new.waiting.items d ≡ out_of old.waiting.items d) → new.ended ≡ old.ended → CommandsAgree s P old → CommandsAgree s P new
+same_table s P old new rows cursors same_taken count waiting outs ended f = record {
+  rows_are = rw rows f.rows_are;
+  ids = f.ids;
+  lanes = rw rows f.lanes;
+  reads = rw rows f.reads;
+  pointed = rw (rows, cursors) f.pointed;
+  lane_count = ap length cursors ∙ f.lane_count;
+  order = f.order ∙ ap ids_of (sym same_taken);
+  ordered = rw (rows, same_taken) f.ordered;
+  placed = rw (rows, same_taken) f.placed;
+  housed = rw (rows, count) f.housed;
+  set_count = count ∙ f.set_count;
+  waiting = λ d j. rw (rows, same_taken) (waiting d j ∙ f.waiting d j);
+  out = λ d. rw rows (outs d ∙ f.out d);
+  ended = rw rows (ended ∙ f.ended);
+}
+
 pub follows_apart : (s : HostSpec) (P : List Entry) (t : Commands) (e : Entry) → IsApart e → CommandsAgree s P t → CommandsAgree s (e ∷ P) t
-follows_apart s P t (entry.Ready n a) apart f = alike s P (entry.Ready n a ∷ P) t (λ c. refl) (λ c. refl) (λ c. refl) refl f
-follows_apart s P t (entry.Owned n by) apart f = alike s P (entry.Owned n by ∷ P) t (λ c. refl) (λ c. refl) (λ c. refl) refl f
-follows_apart s P t (entry.Judged k n d) apart f = alike s P (entry.Judged k n d ∷ P) t (λ c. refl) (λ c. refl) (λ c. refl) refl f
-follows_apart s P t (entry.Failed k n x) apart f = alike s P (entry.Failed k n x ∷ P) t (λ c. refl) (λ c. refl) (λ c. refl) refl f
-follows_apart s P t (entry.State d x) apart f = alike s P (entry.State d x ∷ P) t (λ c. refl) (λ c. refl) (λ c. refl) refl f
-follows_apart s P t entry.Tick apart f = alike s P (entry.Tick ∷ P) t (λ c. refl) (λ c. refl) (λ c. refl) refl f
-follows_apart s P t (entry.Due n) apart f = alike s P (entry.Due n ∷ P) t (λ c. refl) (λ c. refl) (λ c. refl) refl f
-follows_apart s P t (entry.Longer n) apart f = alike s P (entry.Longer n ∷ P) t (λ c. refl) (λ c. refl) (λ c. refl) refl f
-follows_apart s P t (entry.DoneSaid n) apart f = alike s P (entry.DoneSaid n ∷ P) t (λ c. refl) (λ c. refl) (λ c. refl) refl f
-follows_apart s P t (entry.Late n) apart f = alike s P (entry.Late n ∷ P) t (λ c. refl) (λ c. refl) (λ c. refl) refl f
-follows_apart s P t (entry.AbortSet c n) apart f = alike s P (entry.AbortSet c n ∷ P) t (λ c. refl) (λ c. refl) (λ c. refl) refl f
-follows_apart s P t (entry.Aborted c n ok) apart f = alike s P (entry.Aborted c n ok ∷ P) t (λ c. refl) (λ c. refl) (λ c. refl) refl f
-follows_apart s P t (entry.Cleared c level) apart f = alike s P (entry.Cleared c level ∷ P) t (λ c. refl) (λ c. refl) (λ c. refl) refl f
-follows_apart s P t (entry.Sensed c n sense) apart f = alike s P (entry.Sensed c n sense ∷ P) t (λ c. refl) (λ c. refl) (λ c. refl) refl f
-follows_apart s P t entry.EhBegin apart f = alike s P (entry.EhBegin ∷ P) t (λ c. refl) (λ c. refl) (λ c. refl) refl f
-follows_apart s P t entry.EhEnd apart f = alike s P (entry.EhEnd ∷ P) t (λ c. refl) (λ c. refl) (λ c. refl) refl f
-follows_apart s P t (entry.Act level scope ok) apart f = alike s P (entry.Act level scope ok ∷ P) t (λ c. refl) (λ c. refl) (λ c. refl) refl f
-follows_apart s P t (entry.Probe d op say) apart f = alike s P (entry.Probe d op say ∷ P) t (λ c. refl) (λ c. refl) (λ c. refl) refl f
-follows_apart s P t (entry.Offline d) apart f = alike s P (entry.Offline d ∷ P) t (λ c. refl) (λ c. refl) (λ c. refl) refl f
+follows_apart s P t (entry.Ready n a) apart f = alike s P (entry.Ready n a ∷ P) t (λ c. refl) (λ c. refl) (λ c. refl) (λ c. refl) refl f
+follows_apart s P t (entry.Owned n by) apart f = alike s P (entry.Owned n by ∷ P) t (λ c. refl) (λ c. refl) (λ c. refl) (λ c. refl) refl f
+follows_apart s P t (entry.Judged k n d) apart f = alike s P (entry.Judged k n d ∷ P) t (λ c. refl) (λ c. refl) (λ c. refl) (λ c. refl) refl f
+follows_apart s P t (entry.Failed k n x) apart f = alike s P (entry.Failed k n x ∷ P) t (λ c. refl) (λ c. refl) (λ c. refl) (λ c. refl) refl f
+follows_apart s P t (entry.State d x) apart f = alike s P (entry.State d x ∷ P) t (λ c. refl) (λ c. refl) (λ c. refl) (λ c. refl) refl f
+follows_apart s P t entry.Tick apart f = alike s P (entry.Tick ∷ P) t (λ c. refl) (λ c. refl) (λ c. refl) (λ c. refl) refl f
+follows_apart s P t (entry.Due n) apart f = alike s P (entry.Due n ∷ P) t (λ c. refl) (λ c. refl) (λ c. refl) (λ c. refl) refl f
+follows_apart s P t (entry.Longer n) apart f = alike s P (entry.Longer n ∷ P) t (λ c. refl) (λ c. refl) (λ c. refl) (λ c. refl) refl f
+follows_apart s P t (entry.DoneSaid n) apart f = alike s P (entry.DoneSaid n ∷ P) t (λ c. refl) (λ c. refl) (λ c. refl) (λ c. refl) refl f
+follows_apart s P t (entry.Late n) apart f = alike s P (entry.Late n ∷ P) t (λ c. refl) (λ c. refl) (λ c. refl) (λ c. refl) refl f
+follows_apart s P t (entry.Aborted c n ok) apart f = alike s P (entry.Aborted c n ok ∷ P) t (λ c. refl) (λ c. refl) (λ c. refl) (λ c. refl) refl f
+follows_apart s P t (entry.Cleared c level) apart f = alike s P (entry.Cleared c level ∷ P) t (λ c. refl) (λ c. refl) (λ c. refl) (λ c. refl) refl f
+follows_apart s P t (entry.Sensed c n sense) apart f = alike s P (entry.Sensed c n sense ∷ P) t (λ c. refl) (λ c. refl) (λ c. refl) (λ c. refl) refl f
+follows_apart s P t entry.EhBegin apart f = alike s P (entry.EhBegin ∷ P) t (λ c. refl) (λ c. refl) (λ c. refl) (λ c. refl) refl f
+follows_apart s P t entry.EhEnd apart f = alike s P (entry.EhEnd ∷ P) t (λ c. refl) (λ c. refl) (λ c. refl) (λ c. refl) refl f
+follows_apart s P t (entry.Act level scope ok) apart f = alike s P (entry.Act level scope ok ∷ P) t (λ c. refl) (λ c. refl) (λ c. refl) (λ c. refl) refl f
+follows_apart s P t (entry.Probe d op say) apart f = alike s P (entry.Probe d op say ∷ P) t (λ c. refl) (λ c. refl) (λ c. refl) (λ c. refl) refl f
+follows_apart s P t (entry.Offline d) apart f = alike s P (entry.Offline d ∷ P) t (λ c. refl) (λ c. refl) (λ c. refl) (λ c. refl) refl f
 follows_apart s P t e apart f = absurd apart
 
 pub follows_bounced : (s : HostSpec) (P : List Entry) (t : Commands) (c : CmdId) (n m : Attempt) (u : Tag) (why : BusyOf) → standing c.0 P ≡ Waits
     → CommandsAgree s P t → CommandsAgree s (entry.Bounced c m why ∷ entry.Sent c n u ∷ P) t
-follows_bounced s P t c n m u why waits_now f = alike s P (entry.Bounced c m why ∷ entry.Sent c n u ∷ P) t stands (λ d. refl) (λ d. refl) refl f
+follows_bounced s P t c n m u why waits_now f = alike s P (entry.Bounced c m why ∷ entry.Sent c n u ∷ P) t stands (λ d. refl) (λ d. refl) (λ d. refl) refl f
   where
     stands : (d : ℕ) → standing d (entry.Bounced c m why ∷ entry.Sent c n u ∷ P) ≡ standing d P
     stands d = elim (cases_Bool (c.0 == d)) as (λ _. standing d (entry.Bounced c m why ∷ entry.Sent c n u ∷ P) ≡ standing d P) [
@@ -335,21 +386,23 @@ module _ (s : HostSpec) (P Q : List Entry) (old new : Commands) (i : ℕ) (r q :
   -- it goes on
   pub goes_on : taken Q ≡ taken P → is_open r.standing ≡ true → is_open q.standing ≡ true → q.order ≡ r.order
       → new.cursors.items ≡ old.cursors.items → new.taken.items ≡ old.taken.items → length new.waiting.items ≡ length old.waiting.items
-      → ((d j : ℕ) → has new.waiting.items d j ≡ waits_at (set old.rows.items i q) old.taken.items d j) → new.ended ≡ old.ended → CommandsAgree s Q new
-  goes_on order was is same_order cursors same_taken same_count waiting ended =
+      → ((d j : ℕ) → has new.waiting.items d j ≡ waits_at (set old.rows.items i q) old.taken.items d j)
+      → OutsMove old new r q → new.ended ≡ old.ended → CommandsAgree s Q new
+  goes_on order was is same_order cursors same_taken same_count waiting outs ended =
       moved s P old new i r q f ch Q written order (open_isnt_new r.standing was) (open_isnt_new q.standing is)
       (λ _ _. rw (same_order, ch.id) (f.ordered i r ch.at (open_apart r.standing was) (open_isnt_ended r.standing was)))
-      same_order cursors same_taken same_count waiting
+      same_order cursors same_taken same_count waiting outs
       (count_as old new i r q ch f.ended (open_isnt_ended r.standing was) (open_isnt_ended q.standing is) ended)
 
   -- it was reported
   pub reported : taken Q ≡ taken P → is_open r.standing ≡ true → q.standing ≡ Ended
       → q.order ≡ r.order → new.cursors.items ≡ old.cursors.items → new.taken.items ≡ old.taken.items → length new.waiting.items ≡ length old.waiting.items
-      → ((d j : ℕ) → has new.waiting.items d j ≡ waits_at (set old.rows.items i q) old.taken.items d j) → length old.rows.items < 2 ^ 64 → new.ended ≡ min (old.ended + 1) (2 ^ 64 - 1) → CommandsAgree s Q new
-  reported order was is same_order cursors same_taken same_count waiting short ended =
+      → ((d j : ℕ) → has new.waiting.items d j ≡ waits_at (set old.rows.items i q) old.taken.items d j)
+      → OutsMove old new r q → length old.rows.items < 2 ^ 64 → new.ended ≡ min (old.ended + 1) (2 ^ 64 - 1) → CommandsAgree s Q new
+  reported order was is same_order cursors same_taken same_count waiting outs short ended =
       moved s P old new i r q f ch Q written order (open_isnt_new r.standing was) (ap is_new is)
       (λ _ still. absurd (false≢true (sym still ∙ ap is_ended is)))
-      same_order cursors same_taken same_count waiting
+      same_order cursors same_taken same_count waiting outs
       (counts_on old new i r q ch f.ended (open_isnt_ended r.standing was) (ap is_ended is) short ended)
 
 -- what a condition on a place says of its row
@@ -446,3 +499,42 @@ busy_waits New h = refl
 busy_waits Waits h = absurd (false≢true h)
 busy_waits (Busy n t) h = refl
 busy_waits Ended h = refl
+
+pub waits_idle : (x : Standing) → waits x ≡ true → is_busy x ≡ false
+waits_idle New h = absurd (false≢true h)
+waits_idle Waits h = refl
+waits_idle (Busy n t) h = absurd (false≢true h)
+waits_idle Ended h = absurd (false≢true h)
+
+pub open_busy : (x : Standing) → is_open x ≡ true → waits x ≡ false → is_busy x ≡ true
+open_busy New h isnt = absurd (false≢true h)
+open_busy Waits h isnt = absurd (false≢true (sym isnt))
+open_busy (Busy n t) h isnt = refl
+open_busy Ended h isnt = absurd (false≢true h)
+
+pub at_err : {T E P : Type 0} (r : Result T E) → P → OnErr r P
+at_err (Ok x) h = tt
+at_err (Err e) h = h
+
+-- how the number of busy ones moves: b says whether the device is the command's
+pub out_sent : (busy b : Bool) (n m : ℕ) → busy ≡ false → m ≡ n + cond b 1 0 → m + cond (busy && b) 1 0 ≡ n + cond b 1 0
+out_sent true b n m idle e = absurd (false≢true (sym idle))
+out_sent false b n m idle e = omega (arith, e)
+
+pub out_back : (busy b : Bool) (n m : ℕ) → busy ≡ true → m + cond b 1 0 ≡ n → m + cond (busy && b) 1 0 ≡ n + 0
+out_back true b n m is e = omega (arith, e)
+out_back false b n m is e = absurd (false≢true is)
+
+pub out_kept : (busy b : Bool) (n m : ℕ) → busy ≡ false → m ≡ n → m + cond (busy && b) 1 0 ≡ n + 0
+out_kept true b n m idle e = absurd (false≢true (sym idle))
+out_kept false b n m idle e = omega (arith, e)
+
+-- a busy command is counted at its device
+pub some_out : (s : HostSpec) (P : List Entry) (t : Commands) → CommandsAgree s P t → (i : ℕ) (r : CommandRow) → slice_get t.rows.items i ≡ Some r → is_busy r.standing ≡ true
+    → 0 < out_of t.waiting.items r.device
+some_out s P t f i r at busy =
+    let p : CommandRow → Bool = is_out r.device in
+    let one : ◌≡◌ {A = ℕ} (cond (p r) 1 0) 1 = rw (busy, same r.device) refl in
+    let whole : count_by p (set t.rows.items i (record r { standing = Ended })) + cond (p r) 1 0 ≡ count_by p t.rows.items + 0 = count_set p t.rows.items i r (record r { standing = Ended }) at in
+    let counted : out_of t.waiting.items r.device ≡ count_by p t.rows.items = f.out r.device in
+    omega (arith, one, whole, counted)

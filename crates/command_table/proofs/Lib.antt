@@ -1,3 +1,4 @@
+pub mod Heaped
 pub mod Places
 pub mod Entries
 pub mod Waiting

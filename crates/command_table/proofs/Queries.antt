@@ -18,8 +18,8 @@ use Rattle.trace_model.specs.Sending.{next_of_lane, is_left as is_left_in}
 use Rattle.command_table.specs.declared.rows.CommandRow.{CommandRow}
 use Rattle.command_table.specs.declared.rows.Taken.{Taken}
 use Rattle.command_table.specs.declared.commands.Commands.{Commands}
-use Rattle.command_table.specs.Rows.{row_of, has_ended, AreFor, is_left, first_left, IsHoused, start_row, home, waits_at}
-use Rattle.command_table.specs.Sets.{has}
+use Rattle.command_table.specs.Rows.{row_of, has_ended, is_out, AreFor, is_left, first_left, IsHoused, start_row, home, waits_at}
+use Rattle.command_table.specs.Sets.{has, out_of}
 use Rattle.mid_base.specs.declared.names.DevAddr.{DevAddr}
 use Rattle.mid_base.specs.declared.host_spec.LunSpec.{LunSpec}
 use Rattle.mid_base.specs.Address.{same_dev, has_dev}
@@ -149,8 +149,8 @@ home_within d (l ∷ luns) h = elim (cases_Bool (same_dev l.dev d)) as (λ _. ho
 
 -- a table for a journal without entries
 pub starts : (s : HostSpec) (t : Commands) → differ_in_id s.cmds ≡ true → list_all (λ k. nat_lt k.lane.0 64) s.cmds ≡ true → list_all (λ k. has_dev s.luns k.dev) s.cmds ≡ true
-    → t.rows.items ≡ map (start_row s.luns) s.cmds → ArePointed t.rows.items t.cursors.items → length t.cursors.items ≡ 64 → t.taken.items ≡ [] → length t.waiting.items ≡ length s.luns → ((d j : ℕ) → has t.waiting.items d j ≡ false) → t.ended ≡ 0 → CommandsAgree s [] t
-starts s t ids lanes devices rows pointed count taken sets none ended = record {
+    → t.rows.items ≡ map (start_row s.luns) s.cmds → ArePointed t.rows.items t.cursors.items → length t.cursors.items ≡ 64 → t.taken.items ≡ [] → length t.waiting.items ≡ length s.luns → ((d j : ℕ) → has t.waiting.items d j ≡ false) → ((d : ℕ) → out_of t.waiting.items d ≡ 0) → t.ended ≡ 0 → CommandsAgree s [] t
+starts s t ids lanes devices rows pointed count taken sets none outs ended = record {
   rows_are = rw rows (starts_for s.luns s.cmds);
   ids = ids;
   lanes = rw rows (start_lanes s.cmds lanes);
@@ -163,7 +163,8 @@ starts s t ids lanes devices rows pointed count taken sets none ended = record {
   housed = λ i r at. rw sets (start_housed s.cmds devices i r (rw rows at at));
   set_count = sets;
   waiting = λ d j. none d j ∙ sym (ap (λ (xs : List Taken). waits_at t.rows.items xs d j) taken);
-  ended = ended ∙ sym (rw rows (start_count s.cmds));
+  out = λ d. outs d ∙ sym (rw rows (start_count (is_out d) (λ k. refl) s.cmds));
+  ended = ended ∙ sym (rw rows (start_count has_ended (λ k. refl) s.cmds));
 }
   where
     start_lanes : (ks : List CmdSpec) → list_all (λ k. nat_lt k.lane.0 64) ks ≡ true → (i : ℕ) (r : CommandRow) → slice_get (map (start_row s.luns) ks) i ≡ Some r → r.lane.0 < 64
@@ -173,9 +174,9 @@ starts s t ids lanes devices rows pointed count taken sets none ended = record {
     start_lanes (k ∷ ks) h (suc i) r at = start_lanes ks (and_parts (nat_lt k.lane.0 64) (list_all (λ j. nat_lt j.lane.0 64) ks) h).1 i r at
 
     start_reads : (c : ℕ) (ks : List CmdSpec) → Reads [] c (row_of c (map (start_row s.luns) ks))
-    start_reads c [] = (refl, refl, refl)
+    start_reads c [] = (refl, refl, refl, refl)
     start_reads c (k ∷ ks) = elim (cases_Bool (k.id.0 == c)) as (λ _. Reads [] c (row_of c (map (start_row s.luns) (k ∷ ks)))) [
-      | inl is ↦ rw is (refl, refl, refl)
+      | inl is ↦ rw is (refl, refl, refl, refl)
       | inr isnt ↦ rw isnt (start_reads c ks)
     ]
 
@@ -190,8 +191,9 @@ starts s t ids lanes devices rows pointed count taken sets none ended = record {
     start_new (k ∷ ks) zero r at = ap (λ (x : CommandRow). x.standing) (sym (same_Some (start_row s.luns k) r at))
     start_new (k ∷ ks) (suc i) r at = start_new ks i r at
 
-    start_count : (ks : List CmdSpec) → count_by has_ended (map (start_row s.luns) ks) ≡ 0
-    start_count [] = refl
-    start_count (k ∷ ks) =
-        let cons : count_by has_ended (map (start_row s.luns) (k ∷ ks)) ≡ 0 + count_by has_ended (map (start_row s.luns) ks) = sum_by-cons {X = CommandRow} (λ q. cond (has_ended q) 1 0) (start_row s.luns k) (map (start_row s.luns) ks) in
-        omega (arith, cons, start_count ks)
+    start_count : (p : CommandRow → Bool) → ((k : CmdSpec) → p (start_row s.luns k) ≡ false) → (ks : List CmdSpec) → count_by p (map (start_row s.luns) ks) ≡ 0
+    start_count p none_is [] = refl
+    start_count p none_is (k ∷ ks) =
+        let cons : count_by p (map (start_row s.luns) (k ∷ ks)) ≡ cond (p (start_row s.luns k)) 1 0 + count_by p (map (start_row s.luns) ks) = sum_by-cons {X = CommandRow} (λ q. cond (p q) 1 0) (start_row s.luns k) (map (start_row s.luns) ks) in
+        let none : ◌≡◌ {A = ℕ} (cond (p (start_row s.luns k)) 1 0) 0 = rw (none_is k) refl in
+        omega (arith, cons, none, start_count p none_is ks)

@@ -37,31 +37,43 @@ other_order : (xs : List Taken) (i : ℕ) (r : CommandRow) (j : ℕ) (o : Option
 other_order xs i r j o own get apart =
     ne_eqb r.order j (λ e. false≢true (sym (apart (record { place = i; command = r.id }) (sym get ∙ ap (slice_get xs) (sym e) ∙ own)) ∙ eq-eqb i i refl))
 
+-- its line has it, where it waits
+pub stands_there : (rs : List CommandRow) (xs : List Taken) (i : ℕ) (r : CommandRow) → slice_get rs i ≡ Some r → slice_get xs r.order ≡ Some (record { place = i; command = r.id })
+    → waits r.standing ≡ true → waits_at rs xs r.device r.order ≡ true
+stands_there rs xs i r at own is =
+    ap (waits_taken r.device rs) own
+    ∙ ap (waits_row r.device) at
+    ∙ ap (λ (b : Bool). b && (r.device == r.device)) is
+    ∙ eq-eqb r.device r.device refl
+
 module _ (rs : List CommandRow) (xs : List Taken) (i : ℕ) (r q : CommandRow) (at : slice_get rs i ≡ Some r) (placed : ArePlaced rs xs) where
   -- the command waits no longer
   pub dropped : slice_get xs r.order ≡ Some (record { place = i; command = r.id }) → waits q.standing ≡ false
-      → (d j : ℕ) → not ((r.device == d) && (r.order == j)) && waits_at rs xs d j ≡ waits_at (set rs i q) xs d j
+      → (d j : ℕ) → not (waits r.standing && ((r.device == d) && (r.order == j))) && waits_at rs xs d j ≡ waits_at (set rs i q) xs d j
   dropped own gone d j = by_taken (slice_get xs j) refl
     where
-      drop_here : (a b w : Bool) → a ≡ true → not (b && a) && (w && b) ≡ false
-      drop_here true true w h = refl
-      drop_here true false w h = and_none w
+      drop_here : (a b w : Bool) → a ≡ true → not (w && (b && a)) && (w && b) ≡ false
+      drop_here true true true h = refl
+      drop_here true true false h = refl
+      drop_here true false true h = refl
+      drop_here true false false h = refl
       drop_here false b w h = absurd (false≢true h)
 
-      drop_there : (a b w : Bool) → a ≡ false → not (b && a) && w ≡ w
-      drop_there true b w h = absurd (false≢true (sym h))
-      drop_there false true w h = refl
-      drop_there false false w h = refl
+      drop_there : (a b v w : Bool) → a ≡ false → not (v && (b && a)) && w ≡ w
+      drop_there true b v w h = absurd (false≢true (sym h))
+      drop_there false true true w h = refl
+      drop_there false false true w h = refl
+      drop_there false b false w h = refl
 
-      by_taken : (o : Option Taken) → slice_get xs j ≡ o → not ((r.device == d) && (r.order == j)) && waits_taken d rs o ≡ waits_taken d (set rs i q) o
-      by_taken None get = and_none (not ((r.device == d) && (r.order == j)))
-      by_taken (Some x) get = elim (cases_Bool (i == x.place)) as (λ _. not ((r.device == d) && (r.order == j)) && waits_taken d rs (Some x) ≡ waits_taken d (set rs i q) (Some x)) [
+      by_taken : (o : Option Taken) → slice_get xs j ≡ o → not (waits r.standing && ((r.device == d) && (r.order == j))) && waits_taken d rs o ≡ waits_taken d (set rs i q) o
+      by_taken None get = and_none (not (waits r.standing && ((r.device == d) && (r.order == j))))
+      by_taken (Some x) get = elim (cases_Bool (i == x.place)) as (λ _. not (waits r.standing && ((r.device == d) && (r.order == j))) && waits_taken d rs (Some x) ≡ waits_taken d (set rs i q) (Some x)) [
         | inl is ↦
-            ap (λ (o : Option CommandRow). not ((r.device == d) && (r.order == j)) && waits_row d o) (ap (slice_get rs) (sym (eqb-true i x.place is)) ∙ at)
+            ap (λ (o : Option CommandRow). not (waits r.standing && ((r.device == d) && (r.order == j))) && waits_row d o) (ap (slice_get rs) (sym (eqb-true i x.place is)) ∙ at)
             ∙ drop_here (r.order == j) (r.device == d) (waits r.standing) (own_order rs xs i r j x at placed get is)
             ∙ sym (there rs i r q d x at is ∙ ap (λ (b : Bool). b && (q.device == d)) gone)
         | inr isnt ↦
-            drop_there (r.order == j) (r.device == d) (waits_taken d rs (Some x)) (other_order xs i r j (Some x) own get (λ y e. subst (λ (z : Taken). (i == z.place) ≡ false) (same_Some x y e) isnt))
+            drop_there (r.order == j) (r.device == d) (waits r.standing) (waits_taken d rs (Some x)) (other_order xs i r j (Some x) own get (λ y e. subst (λ (z : Taken). (i == z.place) ≡ false) (same_Some x y e) isnt))
             ∙ sym (elsewhere rs i r q d x at isnt)
       ]
 
@@ -91,6 +103,19 @@ module _ (rs : List CommandRow) (xs : List Taken) (i : ℕ) (r q : CommandRow) (
         | inr isnt ↦
             add_there (r.order == j) (r.device == d) (waits_taken d rs (Some x)) (other_order xs i r j (Some x) own get (λ y e. subst (λ (z : Taken). (i == z.place) ≡ false) (same_Some x y e) isnt))
             ∙ sym (elsewhere rs i r q d x at isnt)
+      ]
+
+  -- it waits or not as before
+  pub stays : waits q.standing ≡ waits r.standing → q.device ≡ r.device → (d j : ℕ) → waits_at rs xs d j ≡ waits_at (set rs i q) xs d j
+  stays still same_device d j = by_taken (slice_get xs j)
+    where
+      by_taken : (o : Option Taken) → waits_taken d rs o ≡ waits_taken d (set rs i q) o
+      by_taken None = refl
+      by_taken (Some x) = elim (cases_Bool (i == x.place)) as (λ _. waits_taken d rs (Some x) ≡ waits_taken d (set rs i q) (Some x)) [
+        | inl is ↦
+            ap (waits_row d) (ap (slice_get rs) (sym (eqb-true i x.place is)) ∙ at)
+            ∙ sym (there rs i r q d x at is ∙ ap (λ (b : Bool). b && (q.device == d)) still ∙ ap (λ (n : ℕ). waits r.standing && (n == d)) same_device)
+        | inr isnt ↦ sym (elsewhere rs i r q d x at isnt)
       ]
 
   -- a command that wasn't taken is at none of these places

@@ -1,23 +1,23 @@
 -- The table of commands says what the entries P, the newest first, say.
 use Rattle.std.specs.Prelude.{◌≡◌, ◌≢◌, ◌<◌, ℕ, true, false, List, Option, Some, slice_get, count_by, length}
 use Rattle.mid_base.specs.declared.entries.Entry.{Entry}
-use Rattle.mid_base.specs.declared.entries.Entry.TheVariants.{Ready, Due, Longer, DoneSaid, Owned, Late, Judged, AbortSet, Aborted, Failed, Cleared, Sensed, EhBegin, EhEnd, Act, Probe, Offline, State, Tick}
+use Rattle.mid_base.specs.declared.entries.Entry.TheVariants.{Ready, Due, Longer, DoneSaid, Owned, Late, Judged, Aborted, Failed, Cleared, Sensed, EhBegin, EhEnd, Act, Probe, Offline, State, Tick}
 use Rattle.mid_base.specs.declared.host_spec.CmdSpec.{CmdSpec}
 use Rattle.mid_base.specs.declared.host_spec.HostSpec.{HostSpec}
 use Rattle.mid_base.specs.Limits.{differ_in_id}
 use Rattle.trace_model.specs.declared.standing.Standing.TheVariants.{New}
-use Rattle.trace_model.specs.Commands.{standing, retries, taken, is_new}
+use Rattle.trace_model.specs.Commands.{standing, retries, has_abort, taken, is_new}
 use Rattle.trace_model.specs.Drained.{was_told}
 use Rattle.trace_model.specs.Sending.{next_of_lane}
 use Rattle.command_table.specs.declared.rows.CommandRow.{CommandRow}
 use Rattle.command_table.specs.declared.rows.Taken.{Taken}
 use Rattle.command_table.specs.declared.commands.Commands.{Commands}
-use Rattle.command_table.specs.Rows.{row_of, standing_in, retries_in, is_ended, has_ended, AreFor, id_at, standing_at, first_left, IsFirstLeft, IsHoused, ids_of, waits_at}
-use Rattle.command_table.specs.Sets.{has}
+use Rattle.command_table.specs.Rows.{row_of, standing_in, retries_in, aborted_in, is_ended, has_ended, is_out, AreFor, id_at, standing_at, first_left, IsFirstLeft, IsHoused, ids_of, waits_at}
+use Rattle.command_table.specs.Sets.{has, out_of}
 
 -- what the entries and a row say of the command c
 abbrev pub Reads : List Entry → ℕ → Option CommandRow → Type 0
-Reads P c x = (standing c P ≡ standing_in x) × (retries c P ≡ retries_in x) × (was_told c P ≡ is_ended (standing_in x))
+Reads P c x = (standing c P ≡ standing_in x) × (retries c P ≡ retries_in x) × (was_told c P ≡ is_ended (standing_in x)) × (has_abort c P ≡ aborted_in x)
 
 -- a command that waits or is busy stands at its order among those that were taken
 abbrev pub IsOrdered : List CommandRow → List Taken → Type 0
@@ -53,6 +53,7 @@ pub record CommandsAgree (s : HostSpec) (P : List Entry) (t : Commands) : Type 0
   pub housed : (i : ℕ) → IsHoused i t.rows.items (length t.waiting.items)
   pub set_count : length t.waiting.items ≡ length s.luns
   pub waiting : (d j : ℕ) → has t.waiting.items d j ≡ waits_at t.rows.items t.taken.items d j
+  pub out : (d : ℕ) → out_of t.waiting.items d ≡ count_by (is_out d) t.rows.items
   pub ended : t.ended ≡ count_by has_ended t.rows.items
 
 -- the command at this place is the next one of the lane
@@ -76,7 +77,6 @@ IsApart (Due n) = Unit {0}
 IsApart (Longer n) = Unit {0}
 IsApart (DoneSaid n) = Unit {0}
 IsApart (Late n) = Unit {0}
-IsApart (AbortSet c n) = Unit {0}
 IsApart (Aborted c n ok) = Unit {0}
 IsApart (Cleared c level) = Unit {0}
 IsApart (Sensed c n sense) = Unit {0}

@@ -26,6 +26,10 @@ abbrev pub retries_in : Option CommandRow → ℕ
 retries_in None = 0
 retries_in (Some r) = r.retries
 
+abbrev pub aborted_in : Option CommandRow → Bool
+aborted_in None = false
+aborted_in (Some r) = r.aborted
+
 abbrev pub is_ended : Standing → Bool
 is_ended Ended = true
 is_ended _ = false
@@ -70,7 +74,7 @@ ids_of (x ∷ xs) = x.command.0 ∷ ids_of xs
 
 -- the row of a command that isn't handed in
 abbrev pub start_row : List LunSpec → CmdSpec → CommandRow
-start_row luns k = record { id = k.id; lane = k.lane; device = home k.dev luns; standing = New; retries = 0; order = 0 }
+start_row luns k = record { id = k.id; lane = k.lane; device = home k.dev luns; standing = New; retries = 0; aborted = false; order = 0 }
 
 -- the command at the place is busy; it waits or is busy
 abbrev pub IsBusyAt : ℕ → List CommandRow → Type 0
@@ -95,6 +99,10 @@ waits_taken d rows (Some x) = waits_row d (slice_get rows x.place)
 
 abbrev pub waits_at : List CommandRow → List Taken → (d j : ℕ) → Bool
 waits_at rows xs d j = waits_taken d rows (slice_get xs j)
+
+-- the row's command is busy at the device of this place
+abbrev pub is_out : ℕ → CommandRow → Bool
+is_out d r = is_busy r.standing && (r.device == d)
 
 -- the device of the command at this place is one of so many
 abbrev pub IsHoused : ℕ → List CommandRow → ℕ → Type 0

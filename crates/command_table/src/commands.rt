@@ -5,6 +5,7 @@ ghost use Rattle.mid_base.specs.declared.answers.BusyOf.{BusyOf as BusyOfSeen};
 ghost use Rattle.mid_base.specs.declared.entries.Entry.{Entry as EntrySeen};
 ghost use Rattle.mid_base.specs.declared.entries.Entry.TheVariants as entries;
 ghost use Rattle.mid_base.specs.declared.host_spec.HostSpec.{HostSpec as SpecSeen};
+ghost use Rattle.mid_base.specs.declared.names.Attempt.{Attempt as AttemptSeen};
 ghost use Rattle.mid_base.specs.declared.names.CmdId.{CmdId as IdSeen};
 ghost use Rattle.mid_base.specs.Limits.{differ_in_id};
 ghost use Rattle.trace_model.specs.Commands.{waits, is_busy};
@@ -14,12 +15,12 @@ ghost use Rattle.command_table.specs.Rows.{is_left, first_left};
 ghost use Rattle.mid_base.specs.Address.{has_dev};
 
 use crate::lanes::{first_cursors, next_from};
+use crate::line::Line;
 use crate::making::rows_for;
 use crate::rows::{CommandRow, Taken};
-use crate::sets::{drop_from, empty_sets, least_of, put};
+use crate::sets::{drop_from, empty_sets, least_of, put, put_back, send_from};
 use mid_base::{Attempt, CmdSpec, LaneNo, LunSpec, NoMemory, Tag};
 use std::alloc::Global;
-use std::collections::BTreeSet;
 use trace_model::Standing;
 
 /// The table of a host's commands.
@@ -28,7 +29,7 @@ pub struct Commands {
     rows: Vec<CommandRow>,
     cursors: Vec<usize>,
     taken: Vec<Taken>,
-    waiting: Vec<BTreeSet<usize>>,
+    waiting: Vec<Line>,
     ended: usize,
 }
 
@@ -164,7 +165,7 @@ impl Commands {
     {
         let row = self.row(place);
         let standing = Standing::Busy(n, tag);
-        drop_from(&mut self.waiting, row.device, row.order);
+        send_from(&mut self.waiting, row.device, row.order);
         self.write(place, CommandRow { standing, ..row });
     }
 
@@ -193,18 +194,16 @@ impl Commands {
         self.ended = self.ended.saturating_add(1);
     }
 
-    /// A busy command waits again, as a counted retry where `counted` says so, of which there may be 255. NoMemory changes
-    /// nothing.
-    pub fn again(&mut self, place: usize, counted: bool) -> Result<(), NoMemory>
+    /// A busy command waits again, as a counted retry where `counted` says so, of which there may be 255. It asks for no memory.
+    pub fn again(&mut self, place: usize, counted: bool)
         requires busy { IsBusyAt place self.old.rows.items }
         requires housed { IsHoused place self.old.rows.items (length self.old.waiting.items) }
         requires few { counted ≡ true → (r : _) → slice_get self.old.rows.items place ≡ Some r → r.retries < 255 }
-        ensures follows { OnOk result ((s : SpecSeen) (P : List EntrySeen) (c : IdSeen) → id_at place self.old.rows.items ≡ Some c → CommandsAgree s P self.old → CommandsAgree s (entries.Again c counted ∷ P) self.new) }
-        ensures row { OnOk result ((r : _) → slice_get self.old.rows.items place ≡ Some r → self.new.rows.items ≡ slice_set self.old.rows.items place (record r { standing = Standing.Waits; retries = if counted then r.retries + 1 else r.retries })) }
-        ensures same { OnErr result ((s : SpecSeen) (P : List EntrySeen) → CommandsAgree s P self.old → CommandsAgree s P self.new) }
+        ensures follows { (s : SpecSeen) (P : List EntrySeen) (c : IdSeen) → id_at place self.old.rows.items ≡ Some c → CommandsAgree s P self.old → CommandsAgree s (entries.Again c counted ∷ P) self.new }
+        ensures row { (r : _) → slice_get self.old.rows.items place ≡ Some r → self.new.rows.items ≡ slice_set self.old.rows.items place (record r { standing = Standing.Waits; retries = if counted then r.retries + 1 else r.retries }) }
     {
         let row = self.row(place);
-        put(&mut self.waiting, row.device, row.order)?;
+        put_back(&mut self.waiting, row.device, row.order);
         let standing = Standing::Waits;
         let retries = counted_on(row.retries, counted);
         let new = CommandRow {
@@ -213,7 +212,17 @@ impl Commands {
             ..row
         };
         self.write(place, new);
-        Ok(())
+    }
+
+    /// An abort of an attempt of a busy command is scheduled. Its row says so from now on, whatever becomes of the command.
+    pub fn schedule_abort(&mut self, place: usize)
+        requires busy { IsBusyAt place self.old.rows.items }
+        ensures follows { (s : SpecSeen) (P : List EntrySeen) (c : IdSeen) (n : AttemptSeen) → id_at place self.old.rows.items ≡ Some c → CommandsAgree s P self.old → CommandsAgree s (entries.AbortSet c n ∷ P) self.new }
+        ensures row { (r : _) → slice_get self.old.rows.items place ≡ Some r → self.new.rows.items ≡ slice_set self.old.rows.items place (record r { aborted = true }) }
+    {
+        let row = self.row(place);
+        let aborted = true;
+        self.write(place, CommandRow { aborted, ..row });
     }
 
     /// A command that waits or is busy was reported.
@@ -225,7 +234,7 @@ impl Commands {
     {
         let row = self.row(place);
         let standing = Standing::Ended;
-        drop_from(&mut self.waiting, row.device, row.order);
+        drop_from(&mut self.waiting, row);
         self.write(place, CommandRow { standing, ..row });
         self.count_ended();
     }

@@ -8,6 +8,7 @@
 mod commands;
 mod lanes;
 mod laws;
+mod line;
 mod making;
 mod rows;
 mod sets;

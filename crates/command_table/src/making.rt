@@ -22,6 +22,7 @@ pub fn rows_for(
             device: home(luns, command.dev),
             standing: Standing::New,
             retries: 0,
+            aborted: false,
             order: 0,
         });
     }

@@ -11,6 +11,8 @@ pub struct CommandRow {
     pub standing: Standing,
     /// How often it was sent again as a counted retry.
     pub retries: u8,
+    /// Whether an abort of it was ever scheduled.
+    pub aborted: bool,
     /// Its place among the commands that were taken, the earliest first. It says nothing of one that wasn't.
     pub order: usize,
 }

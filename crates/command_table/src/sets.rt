@@ -1,53 +1,78 @@
-ghost use Rattle.std.specs.Prelude.{◌≡◌, ◌<◌, ◌==◌, ◌&&◌, ◌||◌, ℕ, not, true, false, length, IfOk, OnOk, OnErr, MatchOption};
-ghost use Rattle.command_table.specs.Sets.{has, IsLeast};
+ghost use Rattle.std.specs.Prelude.{◌≡◌, ◌<◌, ◌+◌, ◌==◌, ◌&&◌, ◌||◌, ℕ, not, true, false, length, IfOk, OnOk, OnErr, MatchOption, if◌then◌else◌};
+ghost use Rattle.trace_model.specs.Commands.{waits};
+ghost use Rattle.command_table.specs.Sets.{has, out_of, IsLeast};
 
+use crate::line::Line;
+use crate::rows::CommandRow;
 use mid_base::NoMemory;
 use std::alloc::Global;
-use std::collections::BTreeSet;
+use trace_model::Standing;
 
-// One empty set for each device.
-pub fn empty_sets(alloc: Global, count: usize) -> Result<Vec<BTreeSet<usize>>, NoMemory>
-    ensures none { IfOk result (λ sets. (d j : ℕ) → has sets.items d j ≡ false) }
-    ensures count { IfOk result (λ sets. length sets.items ≡ count) }
+// One empty line for each device.
+pub fn empty_sets(alloc: Global, count: usize) -> Result<Vec<Line>, NoMemory>
+    ensures none { IfOk result (λ lines. (d j : ℕ) → has lines.items d j ≡ false) }
+    ensures out { IfOk result (λ lines. (d : ℕ) → out_of lines.items d ≡ 0) }
+    ensures count { IfOk result (λ lines. length lines.items ≡ count) }
 {
-    let mut sets = Vec::with_capacity(alloc, count).map_err(|_| NoMemory)?;
+    let mut lines = Vec::with_capacity(alloc, count).map_err(|_| NoMemory)?;
     for i in 0..count {
-        sets.push_reserved(BTreeSet::new(alloc));
+        lines.push_reserved(Line::new(alloc));
     }
-    Ok(sets)
+    Ok(lines)
 }
 
-// Puts a number into the set of a device.
-pub fn put(sets: &mut Vec<BTreeSet<usize>>, device: usize, order: usize) -> Result<(), NoMemory>
-    requires { device < length sets.old.items }
-    ensures ok { OnOk result ((d j : ℕ) → has sets.new.items d j ≡ (((device == d) && (order == j)) || has sets.old.items d j)) }
-    ensures err { OnErr result ((d j : ℕ) → has sets.new.items d j ≡ has sets.old.items d j) }
-    ensures count { length sets.new.items ≡ length sets.old.items }
+// Puts a number into the line of a device.
+pub fn put(lines: &mut Vec<Line>, device: usize, order: usize) -> Result<(), NoMemory>
+    requires { device < length lines.old.items }
+    ensures ok { OnOk result ((d j : ℕ) → has lines.new.items d j ≡ (((device == d) && (order == j)) || has lines.old.items d j)) }
+    ensures err { OnErr result ((d j : ℕ) → has lines.new.items d j ≡ has lines.old.items d j) }
+    ensures out { (d : ℕ) → out_of lines.new.items d ≡ out_of lines.old.items d }
+    ensures count { length lines.new.items ≡ length lines.old.items }
 {
-    match sets[device].insert(order) {
-        Ok(_) => Ok(()),
-        Err(_) => Err(NoMemory),
+    lines[device].join(order)
+}
+
+// A command that waited is busy: it may be put back.
+pub fn send_from(lines: &mut Vec<Line>, device: usize, order: usize)
+    requires { device < length lines.old.items }
+    ensures dropped { (d j : ℕ) → has lines.new.items d j ≡ (not ((device == d) && (order == j)) && has lines.old.items d j) }
+    ensures out { has lines.old.items device order ≡ true → (d : ℕ) → out_of lines.new.items d ≡ out_of lines.old.items d + (if device == d then 1 else 0) }
+    ensures count { length lines.new.items ≡ length lines.old.items }
+{
+    lines[device].send(order);
+}
+
+// Puts a command back that was busy.
+pub fn put_back(lines: &mut Vec<Line>, device: usize, order: usize)
+    requires { device < length lines.old.items }
+    ensures put { 0 < out_of lines.old.items device → (d j : ℕ) → has lines.new.items d j ≡ (((device == d) && (order == j)) || has lines.old.items d j) }
+    ensures out { 0 < out_of lines.old.items device → (d : ℕ) → out_of lines.new.items d + (if device == d then 1 else 0) ≡ out_of lines.old.items d }
+    ensures count { length lines.new.items ≡ length lines.old.items }
+{
+    lines[device].come_back(order);
+}
+
+// A command that waited or was busy goes for good.
+pub fn drop_from(lines: &mut Vec<Line>, row: CommandRow)
+    requires { row.device < length lines.old.items }
+    ensures dropped { (d j : ℕ) → has lines.new.items d j ≡ (not (waits row.standing && ((row.device == d) && (row.order == j))) && has lines.old.items d j) }
+    ensures waited { waits row.standing ≡ true → (d : ℕ) → out_of lines.new.items d ≡ out_of lines.old.items d }
+    ensures busy { waits row.standing ≡ false → 0 < out_of lines.old.items row.device → (d : ℕ) → out_of lines.new.items d + (if row.device == d then 1 else 0) ≡ out_of lines.old.items d }
+    ensures count { length lines.new.items ≡ length lines.old.items }
+{
+    if matches!(row.standing, Standing::Waits) {
+        lines[row.device].leave(row.order);
+    } else {
+        lines[row.device].end_out();
     }
 }
 
-// Takes a number out of the set of a device.
-pub fn drop_from(sets: &mut Vec<BTreeSet<usize>>, device: usize, order: usize)
-    requires { device < length sets.old.items }
-    ensures dropped { (d j : ℕ) → has sets.new.items d j ≡ (not ((device == d) && (order == j)) && has sets.old.items d j) }
-    ensures count { length sets.new.items ≡ length sets.old.items }
+// The least number in the line of a device.
+pub fn least_of(lines: &Vec<Line>, device: usize) -> Option<usize>
+    ensures { MatchOption result ((j : ℕ) → has lines.now.items device j ≡ false) (IsLeast lines.now.items device) }
 {
-    sets[device].remove(&order);
-}
-
-// The least number in the set of a device.
-pub fn least_of(sets: &Vec<BTreeSet<usize>>, device: usize) -> Option<usize>
-    ensures { MatchOption result ((j : ℕ) → has sets.now.items device j ≡ false) (IsLeast sets.now.items device) }
-{
-    if device >= sets.as_slice().len() {
+    if device >= lines.as_slice().len() {
         return None;
     }
-    match sets[device].first() {
-        Some(order) => Some(*order),
-        None => None,
-    }
+    lines[device].first()
 }

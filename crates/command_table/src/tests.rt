@@ -1,7 +1,8 @@
-ghost use Rattle.std.specs.Prelude.{◌≡◌};
+ghost use Rattle.std.specs.Prelude.{◌≡◌, IfSome, length};
+ghost use Rattle.command_table.specs.Rows.{IsBusyAt, IsHoused};
 
 use crate::Commands;
-use mid_base::{CdbBytes, CmdId, CmdSpec, DevAddr, DeviceState, LaneNo, LunSpec};
+use mid_base::{Attempt, CdbBytes, CmdId, CmdSpec, DevAddr, DeviceState, LaneNo, LunSpec, Tag};
 use std::test::Fail;
 
 fn unit(lun: u16) -> LunSpec
@@ -78,4 +79,51 @@ fn a_host_without_commands_is_drained(rt: HostRuntime) -> Result<(), Fail> {
     };
     assert!(rt; table.drained());
     Ok(())
+}
+
+// The place of a command that was taken and sent.
+fn one_busy(rt: &HostRuntime) -> Option<(Commands, usize)>
+    ensures busy { IfSome result (λ x. IsBusyAt x.1 x.0.rows.items) }
+    ensures housed { IfSome result (λ x. IsHoused x.1 x.0.rows.items (length x.0.waiting.items)) }
+{
+    let Ok(mut table) = Commands::new(rt.alloc(), &[command(7, 0, 0)], &[unit(0)]) else {
+        return None;
+    };
+    let Some(place) = table.next_in(LaneNo(0)) else {
+        return None;
+    };
+    let Ok(()) = table.take(place) else {
+        return None;
+    };
+    table.send(place, Attempt(1), Tag(0));
+    Some((table, place))
+}
+
+#[test]
+fn a_command_that_goes_back_is_first_again(rt: HostRuntime) {
+    let Some((mut table, place)) = one_busy(&rt) else {
+        assert!(rt; false, "memory for one command");
+        return;
+    };
+    table.again(place, false);
+    assert_eq!(rt; table.first_waiting(0), Some(0));
+}
+
+#[test]
+fn a_command_that_was_sent_waits_no_longer(rt: HostRuntime) {
+    let Some((table, _)) = one_busy(&rt) else {
+        assert!(rt; false, "memory for one command");
+        return;
+    };
+    assert_eq!(rt; table.first_waiting(0), None);
+}
+
+#[test]
+fn an_abort_is_remembered(rt: HostRuntime) {
+    let Some((mut table, place)) = one_busy(&rt) else {
+        assert!(rt; false, "memory for one command");
+        return;
+    };
+    table.schedule_abort(place);
+    assert!(rt; table.row(place).aborted);
 }

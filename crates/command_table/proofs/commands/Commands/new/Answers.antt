@@ -16,4 +16,4 @@ returns c s same same_luns =
     (ap (λ (luns : List LunSpec). list_all (λ k. has_dev luns k.dev) s.cmds) same_luns ∙ ap (list_all (λ k. has_dev c.args.luns.now k.dev)) same ∙ c.requires.devices)
     (c.in_ok-rows.ensures ∙ ap (map (start_row c.args.luns.now)) (sym same) ∙ ap (λ (luns : List LunSpec). map (start_row luns) s.cmds) (sym same_luns))
     c.in_ok-cursors.ensures.pointed c.in_ok-cursors.ensures.count c.new.ensures.items
-    (c.in_ok-waiting.ensures.count ∙ ap length (sym same_luns)) c.in_ok-waiting.ensures.none refl
+    (c.in_ok-waiting.ensures.count ∙ ap length (sym same_luns)) c.in_ok-waiting.ensures.none c.in_ok-waiting.ensures.out refl

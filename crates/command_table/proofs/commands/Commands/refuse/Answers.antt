@@ -8,8 +8,8 @@ use Rattle.trace_model.specs.Commands.{is_new}
 use Rattle.command_table.specs.declared.rows.CommandRow.{CommandRow}
 use Rattle.command_table.specs.declared.rows.Taken.{Taken}
 use Rattle.command_table.specs.Rows.{is_ended, first_left, ids_of, waits_at}
-use Rattle.command_table.specs.Sets.{has}
-use Rattle.std.specs.BTreeSet.{BTreeSet}
+use Rattle.command_table.specs.Sets.{has, out_of}
+use Rattle.command_table.specs.declared.line.Line.{Line}
 use Rattle.std.proofs.lemmas.Bool.{false≢true}
 use Rattle.command_table.proofs.Waiting.{refused}
 use Rattle.command_table.proofs.commands.Commands.refuse.Goals as goal
@@ -36,7 +36,7 @@ returns-clause-follows c s P id a is f =
     (handed_in s P old c.pass.new.self c.args.place r q f ch (entry.Told r.id a ∷ P)
     (written_told P r a reads)
     (f.order ∙ ap ids_of (sym taken))
-    (ap is_new was) refl
+    (ap is_new was) refl refl
     (rw (rows, taken) (ordered_refused old.rows.items old.taken.items c.args.place r at f.ordered))
     (rw (rows, taken) (placed_written old.rows.items old.taken.items c.args.place r q at refl (λ isnt. absurd (false≢true (sym isnt ∙ ap is_new was))) f.placed))
     (pointed_on old.cursors.items c.count_ended.new.self.cursors.items c.pass.new.self.cursors.items r.lane.0 c.count_ended.new.self.rows.items c.pass.new.self.rows.items (more.cursors ∙ kept.cursors) rest.rows
@@ -44,7 +44,8 @@ returns-clause-follows c s P id a is f =
     (subst (λ (n : ℕ). c.args.place < n) (sym (ap length (rows_then) ∙ length-set old.rows.items c.args.place q)) (slice_get_within old.rows.items c.args.place r at))
     (rw (rows_then) (passed old.rows.items c.args.place r q at c.requires.first refl))))
     (ap length (rest.waiting ∙ more.waiting ∙ kept.waiting))
-    (λ d j. ap (λ (ws : List (BTreeSet ℕ)). has ws d j) (rest.waiting ∙ more.waiting ∙ kept.waiting) ∙ f.waiting d j
+    (λ d j. ap (λ (ws : List Line). has ws d j) (rest.waiting ∙ more.waiting ∙ kept.waiting) ∙ f.waiting d j
     ∙ refused old.rows.items old.taken.items c.args.place r q at f.placed (ap is_new was) d j
     ∙ sym (ap (λ (rs : List CommandRow). waits_at rs c.pass.new.self.taken.items d j) rows ∙ ap (λ (xs : List Taken). waits_at (set old.rows.items c.args.place q) xs d j) taken))
+    (λ d. ap (λ (ws : List Line). out_of ws d) (rest.waiting ∙ more.waiting ∙ kept.waiting))
     (counts_on old c.pass.new.self c.args.place r q ch f.ended (ap is_ended was) refl short (rest.ended ∙ more.ended ∙ ap (λ (n : ℕ). min (n + 1) (2 ^ 64 - 1)) kept.ended)))

@@ -8,11 +8,11 @@ use Rattle.trace_model.specs.Commands.{is_new}
 use Rattle.command_table.specs.declared.rows.CommandRow.{CommandRow}
 use Rattle.command_table.specs.declared.rows.Taken.{Taken}
 use Rattle.command_table.specs.Rows.{is_ended, first_left, ids_of, waits_at}
-use Rattle.command_table.specs.Sets.{has}
-use Rattle.std.specs.BTreeSet.{BTreeSet}
+use Rattle.command_table.specs.Sets.{has, out_of}
+use Rattle.command_table.specs.declared.line.Line.{Line}
 use Rattle.command_table.proofs.Waiting.{newly_taken}
 use Rattle.command_table.proofs.commands.Commands.take.Goals as goal
-use Rattle.command_table.proofs.Entries.{Changes, reads_at, id_is, standing_is, handed_in, count_as, written_took, ids_push, ordered_taken, placed_taken, passed, pointed_on}
+use Rattle.command_table.proofs.Entries.{Changes, reads_at, id_is, standing_is, handed_in, count_as, same_table, at_err, written_took, ids_push, ordered_taken, placed_taken, passed, pointed_on}
 
 pub returns-clause-follows : goal.returns-clause-follows
 returns-clause-follows c s P id is f =
@@ -38,7 +38,7 @@ returns-clause-follows c s P id is f =
     (handed_in s P old c.pass.new.self c.args.place r q f ch (entry.Took r.id ∷ P)
     (written_took P r (length old.taken.items) reads (ap is_ended was))
     (ap (λ (ns : List ℕ). ns ++ r.id.0 ∷ []) f.order ∙ sym (ids_push old.taken.items (record { place = c.args.place; command = r.id })) ∙ ap ids_of (sym taken))
-    (ap is_new was) refl
+    (ap is_new was) refl refl
     (rw (rows, taken) (ordered_taken old.rows.items old.taken.items c.args.place r at f.ordered))
     (rw (rows, taken) (placed_taken old.rows.items old.taken.items c.args.place r at (ap is_new was) f.placed))
     (pointed_on old.cursors.items c.write.new.self.cursors.items c.pass.new.self.cursors.items r.lane.0 c.write.new.self.rows.items c.pass.new.self.rows.items kept.cursors rest.rows
@@ -46,9 +46,18 @@ returns-clause-follows c s P id is f =
     (subst (λ (n : ℕ). c.args.place < n) (sym (ap length (rows_then) ∙ length-set old.rows.items c.args.place q)) (slice_get_within old.rows.items c.args.place r at))
     (rw (rows_then) (passed old.rows.items c.args.place r q at c.requires.first refl))))
     (ap length (rest.waiting ∙ kept.waiting) ∙ c.put.ensures.count)
-    (λ d j. ap (λ (ws : List (BTreeSet ℕ)). has ws d j) (rest.waiting ∙ kept.waiting) ∙ c.in_ok-put.ensures.ok d j
+    (λ d j. ap (λ (ws : List Line). has ws d j) (rest.waiting ∙ kept.waiting) ∙ c.in_ok-put.ensures.ok d j
     ∙ ap (λ (n : ℕ). ((r.device == d) && (n == j)) || has old.waiting.items d j) order
     ∙ ap (λ (b : Bool). ((r.device == d) && (length old.taken.items == j)) || b) (f.waiting d j)
     ∙ newly_taken old.rows.items old.taken.items c.args.place r q at f.placed (ap is_new was) refl refl d j
     ∙ sym (ap (λ (rs : List CommandRow). waits_at rs c.pass.new.self.taken.items d j) rows ∙ ap (λ (xs : List Taken). waits_at (set old.rows.items c.args.place q) xs d j) taken))
+    (λ d. ap (λ (ws : List Line). out_of ws d) (rest.waiting ∙ kept.waiting) ∙ c.put.ensures.out d)
     (count_as old c.pass.new.self c.args.place r q ch f.ended (ap is_ended was) refl (rest.ended ∙ kept.ended)))
+
+pub returns-in_err-put-clause-same : goal.returns-in_err-put-clause-same
+returns-in_err-put-clause-same c =
+    at_err c.from_residual-in_err-put.result (λ s P f.
+    same_table s P c.args.self.now _ refl refl c.reserve.ensures.items c.put.ensures.count c.in_err-put.ensures.err c.put.ensures.out refl f)
+
+pub write-requires : goal.write-requires
+write-requires c = slice_get_within c.args.self.now.rows.items c.args.place c.row-row.result c.row-row.ensures
