@@ -25,10 +25,13 @@ first_of : (P : List Entry) (rows : List Row) (xs : List Abort) (x : Abort) → 
 first_of P rows [] x at all = absurd (none-some x at)
 first_of P rows (y ∷ xs) x at all = subst (λ (z : Abort). IsAborting P rows z) (same_Some y x at) all.0
 
+pub aborting_first : (s : HostSpec) (P : List Entry) (r : Running) → HostAgrees s P r → (x : Abort) → slice_get r.failures.work.waiting 0 ≡ Some x → IsAborting P r.attempts.rows.items x
+aborting_first s P r runs x first = first_of P r.attempts.rows.items r.failures.work.waiting x first runs.aborting
+
 pub first_busy : (s : HostSpec) (P : List Entry) (r : Running) → HostAgrees s P r → (n : Attempt) (row : Row) → slice_get r.failures.work.waiting 0 ≡ Some (row.command, n)
     → row_of n.0 r.attempts.rows.items ≡ Some row → (is_some row.owner ≡ true) × (standing row.command.0 P ≡ Busy n row.tag)
 first_busy s P r runs n row first at =
-    let it = first_of P r.attempts.rows.items r.failures.work.waiting (row.command, n) first runs.aborting in
+    let it = aborting_first s P r runs (row.command, n) first in
     let is : it.row ≡ row = same_Some it.row row (sym it.at ∙ at) in
     (ap (λ (x : Row). is_some x.owner) (sym is) ∙ it.owned, it.busy ∙ ap (λ (x : Row). Busy n x.tag) is)
 

@@ -5,7 +5,7 @@ ghost use Rattle.mid_base.specs.Limits.{KeepsLimits};
 use crate::Running;
 use bitflags::Flags;
 use mid_base::{
-    CdbBytes, CmdId, CmdSpec, DevAddr, DeviceState, Handlers, HostNo, HostSpec, LaneNo, LunSpec,
+    Attempt, CdbBytes, CmdId, CmdSpec, DevAddr, DeviceState, Handlers, HostNo, HostSpec, LaneNo, LunSpec,
     NoMemory, Rows, TagState, Tick,
 };
 use std::alloc::Global;
@@ -132,4 +132,23 @@ fn time_goes_on_by_ticks(rt: HostRuntime) {
     assert_eq!(rt; running.now(), Tick(2));
     assert!(rt; running.reserve().is_ok());
     assert_eq!(rt; running.count(), 0);
+}
+
+#[test]
+fn nobody_is_asked_about_and_nothing_is_aborted_on_a_new_host(rt: HostRuntime) {
+    let Ok(running) = running(rt.alloc()) else {
+        assert!(rt; false, "memory for a host");
+        return;
+    };
+    assert!(rt; running.overdue().is_none() && running.first_abort().is_none());
+}
+
+#[test]
+fn no_answer_is_late_on_a_new_host(rt: HostRuntime) {
+    let Ok(mut running) = running(rt.alloc()) else {
+        assert!(rt; false, "memory for a host");
+        return;
+    };
+    running.drop_late(Attempt(1));
+    assert!(rt; !running.is_late(Attempt(1)));
 }

@@ -6,6 +6,7 @@ use Rattle.trace_model.specs.Attempts.{attempts}
 use Rattle.trace_model.specs.Time.{is_expired, may_ask}
 use Rattle.deadline_table.specs.DeadlinesAgree.{IsDueAt}
 use Rattle.deadline_table.proofs.Queries.{some_expired}
+use Rattle.host_state.specs.declared.running.Running.{Running}
 use Rattle.host_state.specs.HostAgrees.{IsAsked}
 use Rattle.host_state.proofs.running.Running.overdue.Goals as goal
 
@@ -13,7 +14,7 @@ pub returns : goal.returns
 returns c s P r =
     by_result c.due.result c.due.ensures.waits (c.due.ensures.asks s P r.timed.agrees r.time) (some_expired s P old.deadlines.timers.timers r.timed.agrees old.ticks r.time c.due.result c.due.ensures.first)
   where
-    old : _
+    old : Running
     old = c.args.self.now
 
     by_result : (x : Option Attempt) → MatchOption x ⊤ (λ n. IsDueAt n.0 old.ticks old.deadlines.timers.timers)

@@ -29,7 +29,7 @@ schedule_abort-requires c =
     let asked = c.requires in
     let owned = settles asked.spec asked.entries old asked.runs c.args.n c.args.row ByExpiry asked.is in
     let going = (under_way_of asked.spec asked.entries old asked.runs c.args.n c.args.row ByExpiry asked.is).1 in
-    ap (λ (o : Option CommandRow). option_map (λ (x : CommandRow). is_busy x.standing) o) owned.at ∙ ap (λ (x : Standing). Some (is_busy x)) owned.stands
+    record { busy = ap (λ (o : Option CommandRow). option_map (λ (x : CommandRow). is_busy x.standing) o) owned.at ∙ ap (λ (x : Standing). Some (is_busy x)) owned.stands }
 
 pub schedule-requires : goal.schedule-requires
 schedule-requires c =

@@ -1,3 +1,4 @@
+use Rattle.std.proofs.Common.{refl, ◌∷◌}
 use Rattle.mid_base.specs.declared.entries.Entry.TheVariants as entry
 use Rattle.attempt_table.proofs.Told.{tells_apart}
 use Rattle.command_table.proofs.Entries.{follows_apart}
