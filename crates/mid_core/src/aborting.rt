@@ -9,6 +9,7 @@ ghost use Rattle.mid_core.specs.Choices.{IsRunning, after_abort};
 
 use crate::Core;
 use attempt_table::Row;
+use bitflags::Flags;
 use done_flush::{Flush, verdict};
 use host_state::Running;
 use host_template::{EhSay, HostTemplate};

@@ -1,0 +1,17 @@
+use Rattle.std.proofs.Common.{◌∙◌, sym, ap, length, arith}
+use Rattle.mid_core.proofs.Judged.{place_within, command_within, abort_left_is}
+use Rattle.mid_core.proofs.Offered.{read_there}
+use Rattle.mid_core.proofs.expiring.has_abort_left.Goals as goal
+
+pub bounds-as_slice-row : goal.bounds-as_slice-row
+bounds-as_slice-row c =
+    let within = command_within c.args.spec.now c.requires.runs.0 c.args.running.now c.requires.runs.1 c.args.n.0 c.args.row c.requires.row in
+    omega (arith, ap length c.as_slice.ensures)
+
+pub offset_bounds-as_slice-row : goal.offset_bounds-as_slice-row
+offset_bounds-as_slice-row c =
+    let within = command_within c.args.spec.now c.requires.runs.0 c.args.running.now c.requires.runs.1 c.args.n.0 c.args.row c.requires.row in
+    omega (arith, ap length c.as_slice.ensures)
+
+pub command-kept-requires : goal.command-kept-requires
+command-kept-requires c = place_within c.args.spec.now c.requires.runs.0 c.args.running.now c.requires.runs.1 c.args.n.0 c.args.row c.requires.row
