@@ -1,5 +1,5 @@
 -- The disposition of an answer, and what follows it.
-use Rattle.std.proofs.Common.{◌≡◌, ◌∙◌, sym, ap, refl, ℕ, zero, suc, ◌<◌, ◌≤◌, Bool, true, false, not, ◌&&◌, List, [], ◌∷◌, Some, length}
+use Rattle.std.proofs.Common.{◌≡◌, ◌∙◌, sym, ap, refl, ℕ, zero, suc, ◌<◌, ◌≤◌, Bool, true, false, not, ◌&&◌, cond, List, [], ◌∷◌, Option, None, Some, length}
 use Rattle.std.specs.List.{list_all}
 use Rattle.std.specs.Prelude.{nat_lt, slice_get, nat_le}
 use Rattle.std.proofs.lemmas.Bool.{ltb-true, leb-true, and_parts}
@@ -21,7 +21,10 @@ use Rattle.trace_model.specs.Judging.{disp_of, has_abort_left, may_retry}
 use Rattle.trace_model.specs.Names.{command, dev_of}
 use Rattle.attempt_table.specs.declared.rows.Row.{Row}
 use Rattle.attempt_table.specs.Rows.{row_of}
-use Rattle.done_flush.specs.Verdict.{has_retry}
+use Rattle.done_flush.specs.Verdict.{has_retry, flush, told}
+use Rattle.done_flush.specs.declared.flush.Flush.{Flush}
+use Rattle.done_flush.specs.declared.flush.Flush.TheVariants as flushes
+use Rattle.mid_base.specs.Answers.{time_out}
 use Rattle.command_table.specs.declared.rows.CommandRow.{CommandRow}
 use Rattle.command_table.proofs.Entries.{reads_at, id_is}
 use Rattle.device_table.specs.declared.rows.DeviceRow.{DeviceRow}
@@ -53,6 +56,28 @@ all_at p (y ∷ xs) (suc i) x all at = all_at p xs i x (and_parts (p y) (list_al
 pub few_allowed : (s : HostSpec) → KeepsLimits s → (i : ℕ) (k : CmdSpec) → slice_get s.cmds i ≡ Some k → k.allowed ≤ 20
 few_allowed s limits i k at =
     leb-true k.allowed 20 (and_parts _ (nat_le k.allowed 20) (and_parts _ (has_block k) (all_at (is_command s.luns) s.cmds i k limits.commands at)).0).1
+
+-- a command goes again where it has a retry, and else is told that its time ran out
+pub goes_again : (k : CmdSpec) (made : ℕ) (x : DeviceState) (last : Option Answer) → flush k made x last false ≡ flushes.Again → has_retry k made x ≡ true
+goes_again k made x last is = by_retry (has_retry k made x) is
+  where
+    by_retry : (b : Bool) → cond b flushes.Again (flushes.Told (told last)) ≡ flushes.Again → b ≡ true
+    by_retry true e = refl
+    by_retry false e = cc
+
+pub has_retries : (k : CmdSpec) (made : ℕ) (x : DeviceState) (last : Option Answer) → flush k made x last false ≡ flushes.Again → made < k.allowed
+has_retries k made x last is = ltb-true made k.allowed (and_parts (is_online_state x && not k.failfast) (nat_lt made k.allowed) (goes_again k made x last is)).1
+
+pub is_told : (k : CmdSpec) (made : ℕ) (x : DeviceState) (a : Answer) → flush k made x None false ≡ flushes.Told a → (has_retry k made x ≡ false) × (a ≡ time_out)
+is_told k made x a is = by_retry (has_retry k made x) is
+  where
+    answer_of : Flush → Answer
+    answer_of (flushes.Told b) = b
+    answer_of f = time_out
+
+    by_retry : (b : Bool) → cond b flushes.Again (flushes.Told time_out) ≡ flushes.Told a → (b ≡ false) × (a ≡ time_out)
+    by_retry true e = cc
+    by_retry false e = (refl, sym (ap answer_of e))
 
 -- of an attempt with this row
 module _ (s : HostSpec) (P : List Entry) (r : Running) (runs : HostAgrees s P r) (n : ℕ) (row : Row) (there : row_of n r.attempts.rows.items ≡ Some row) where

@@ -49,11 +49,20 @@ fn try_abort<A: HostTemplate>(
     ensures calls { result ≡ true → calls spec.now.handlers abort_level ≡ true }
     ensures stands { (P : List EntrySeen) (b : Before) → HostAgrees spec.now P running.now → A.stands lower.old spec.now b P → A.stands lower.new spec.now b (entries.Aborted row.command n result ∷ P) }
 {
-    if !spec.handlers.intersects(Handlers::ABORT) {
+    if !can_abort(spec.handlers) {
         return false;
     }
     let command = spec.cmds.as_slice()[row.place];
-    matches!(lower.abort(n, command.dev), EhSay::Success)
+    match lower.abort(n, command.dev) {
+        EhSay::Success => true,
+        EhSay::Failed => false,
+    }
+}
+
+fn can_abort(handlers: Handlers) -> bool
+    ensures { result ≡ calls handlers abort_level }
+{
+    handlers.intersects(Handlers::ABORT)
 }
 
 /// Enters into the running state what follows the abort of an attempt, and gives the entry that says it: after a success the

@@ -1,4 +1,4 @@
-ghost use Rattle.std.specs.Prelude.{◌≡◌, List, ◌∷◌, Some};
+ghost use Rattle.std.specs.Prelude.{◌≡◌, ◌&&◌, not, nat_lt, List, ◌∷◌, Some};
 ghost use Rattle.mid_base.specs.declared.answers.By.TheVariants.{Expiry as ByExpiry};
 ghost use Rattle.mid_base.specs.declared.entries.Entry.{Entry as EntrySeen};
 ghost use Rattle.trace_model.specs.Judging.{has_abort_left};
@@ -7,8 +7,9 @@ ghost use Rattle.host_state.specs.HostAgrees.{HostAgrees, IsExpiredRow, IsFreed}
 ghost use Rattle.mid_core.specs.Choices.{IsRunning, after_expiry};
 
 use attempt_table::Row;
+use command_table::CommandRow;
 use host_state::Running;
-use mid_base::{Attempt, Entry, HostSpec};
+use mid_base::{Attempt, CmdSpec, Entry, HostSpec};
 
 /// Settles an attempt that its expired timer owns: its abort is scheduled, or its command has failed. Gives the entry that
 /// says so (`scsi_eh.rst`, "Completing a scmd w/ timeout").
@@ -41,5 +42,11 @@ fn has_abort_left(spec: &HostSpec, running: &Running, n: Attempt, row: Row) -> b
 {
     let command = spec.cmds.as_slice()[row.place];
     let kept = running.command(row.place);
+    is_left(spec, kept, command)
+}
+
+fn is_left(spec: &HostSpec, kept: CommandRow, command: CmdSpec) -> bool
+    ensures { result ≡ (not spec.now.no_async_abort && not kept.aborted && nat_lt kept.retries command.allowed) }
+{
     !spec.no_async_abort && !kept.aborted && kept.retries < command.allowed
 }

@@ -1,0 +1,71 @@
+use Rattle.std.proofs.Common.{reverse, ◌∙◌, ap, refl, List, [], ◌∷◌}
+use Rattle.mid_base.specs.declared.entries.Entry.{Entry}
+use Rattle.mid_base.specs.Past.{ticks}
+use Rattle.mid_core.proofs.Asked.{still_asked}
+use Rattle.mid_core.proofs.Groups.{group_asked, nothing_bars_asking, opens_asked, asked_enters}
+use Rattle.mid_core.proofs.Growing.{core_grows, added, back}
+use Rattle.mid_core.proofs.machine.Core.due.Goals as goal
+
+pub invariant_of-self-in_err-reserve-2 : goal.invariant_of-self-in_err-reserve-2
+invariant_of-self-in_err-reserve-2 g c =
+    let core = c.self.invariant in
+    let spec = c.self.inside.spec in
+    let before = c.self.inside.before in
+    let P = reverse c.self.inside.book.entries in
+    let r = c.self.inside.running in
+    rw (ap (λ (xs : List Entry). reverse xs) c.in_ok-reserve.ensures.entries)
+    (record { legal = core.legal; stood = core.stood; runs = c.in_err-reserve-2.ensures.same spec P core.runs })
+
+pub ask-said-requires-clause-asked : goal.ask-said-requires-clause-asked
+ask-said-requires-clause-asked g c =
+    let core = c.self.invariant in
+    let spec = c.self.inside.spec in
+    let before = c.self.inside.before in
+    let P = reverse c.self.inside.book.entries in
+    let r = c.self.inside.running in
+    let due = c.in-Some.ensures spec P core.runs in
+    let roomy = c.in_ok-reserve-2.ensures in
+    still_asked spec P r c.reserve-2.new.self c.in-Some.n (roomy.same spec P core.runs) roomy.deadlines roomy.ticks due.2
+
+pub invariant_of-self-2 : goal.invariant_of-self-2
+invariant_of-self-2 g c =
+    let core = c.self.invariant in
+    let spec = c.self.inside.spec in
+    let before = c.self.inside.before in
+    let P = reverse c.self.inside.book.entries in
+    let r = c.self.inside.running in
+    let n = c.in-Some.n in
+    let due = c.in-Some.ensures spec P core.runs in
+    let roomy = c.in_ok-reserve-2.ensures.same spec P core.runs in
+    let said = c.ask-said.result in
+    let is = c.ask-said.ensures.said in
+    rw (back c.self.inside.book.entries _ _ said c.in_ok-reserve.ensures.entries c.push.ensures.entries)
+    (core_grows _ _ _ _ _ P (said ∷ []) _ _ core (group_asked spec P n due.1 said is)
+    (c.ask-said.ensures.stands P before roomy core.stood)
+    (c.ask-said.ensures.runs P roomy))
+
+pub returns : goal.returns
+returns g c =
+    let core = c.self.invariant in
+    let spec = c.self.inside.spec in
+    let before = c.self.inside.before in
+    let P = reverse c.self.inside.book.entries in
+    let r = c.self.inside.running in
+    let n = c.in-Some.n in
+    let due = c.in-Some.ensures spec P core.runs in
+    let roomy = c.in_ok-reserve-2.ensures.same spec P core.runs in
+    let said = c.ask-said.result in
+    let is = c.ask-said.ensures.said in
+    rw (← c.self.view_is) (record {
+      spec = refl;
+      before = refl;
+      group = said ∷ [];
+      journal = added c.self.inside.book.entries _ _ said c.in_ok-reserve.ensures.entries c.push.ensures.entries;
+      adds = record {
+        opened = opens_asked spec P n said is;
+        added = group_asked spec P n due.1 said is;
+        free = nothing_bars_asking spec P due.0 (g.A.HostTemplate.is_due c.self.inside.lower (ticks P));
+      };
+      enters = asked_enters n said is;
+      tags = c.ask-said.ensures.shown ∙ c.in_ok-reserve-2.ensures.shown;
+    })
