@@ -30,34 +30,23 @@ attempt_in : Standing → ℕ
 attempt_in (Busy n t) = n.0
 attempt_in x = 0
 
+sent_last : (b : Bool) (m : Attempt) (u : Tag) (x : Standing) (k : ℕ) (n : Attempt) (t : Tag) → (x ≡ Busy n t → k ≡ n.0) → cond b (Busy m u) x ≡ Busy n t → cond b m.0 k ≡ n.0
+unfolding attempt_in
+sent_last true m u x k n t before busy = ap attempt_in busy
+sent_last false m u x k n t before busy = before busy
+
+still_busy : (b : Bool) (y x : Standing) (n : Attempt) (t : Tag) → is_busy y ≡ false → cond b y x ≡ Busy n t → x ≡ Busy n t
+still_busy true y x n t idle busy = absurd (false≢true (sym idle ∙ ap is_busy busy))
+still_busy false y x n t idle busy = busy
+
 -- the last attempt of a busy command is the one that it is busy with
 busy_is_last : (c : ℕ) (n : Attempt) (t : Tag) (P : List Entry) → standing c P ≡ Busy n t → attempt_of c P ≡ n.0
 busy_is_last c n t [] busy = absurd (false≢true (ap is_busy busy))
-busy_is_last c n t (entry.Sent d m u ∷ P) busy = by_test (d.0 == c) busy
-  where
-    by_test : (b : Bool) → cond b (Busy m u) (standing c P) ≡ Busy n t → cond b m.0 (attempt_of c P) ≡ n.0
-    by_test true is = ap attempt_in is
-    by_test false is = busy_is_last c n t P is
-busy_is_last c n t (entry.Took d ∷ P) busy = by_test (d.0 == c) busy
-  where
-    by_test : (b : Bool) → cond b Waits (standing c P) ≡ Busy n t → attempt_of c P ≡ n.0
-    by_test true is = absurd (false≢true (ap is_busy is))
-    by_test false is = busy_is_last c n t P is
-busy_is_last c n t (entry.Bounced d m why ∷ P) busy = by_test (d.0 == c) busy
-  where
-    by_test : (b : Bool) → cond b Waits (standing c P) ≡ Busy n t → attempt_of c P ≡ n.0
-    by_test true is = absurd (false≢true (ap is_busy is))
-    by_test false is = busy_is_last c n t P is
-busy_is_last c n t (entry.Again d counted ∷ P) busy = by_test (d.0 == c) busy
-  where
-    by_test : (b : Bool) → cond b Waits (standing c P) ≡ Busy n t → attempt_of c P ≡ n.0
-    by_test true is = absurd (false≢true (ap is_busy is))
-    by_test false is = busy_is_last c n t P is
-busy_is_last c n t (entry.Told d a ∷ P) busy = by_test (d.0 == c) busy
-  where
-    by_test : (b : Bool) → cond b Ended (standing c P) ≡ Busy n t → attempt_of c P ≡ n.0
-    by_test true is = absurd (false≢true (ap is_busy is))
-    by_test false is = busy_is_last c n t P is
+busy_is_last c n t (entry.Sent d m u ∷ P) busy = sent_last (d.0 == c) m u (standing c P) (attempt_of c P) n t (busy_is_last c n t P) busy
+busy_is_last c n t (entry.Took d ∷ P) busy = busy_is_last c n t P (still_busy (d.0 == c) Waits (standing c P) n t refl busy)
+busy_is_last c n t (entry.Bounced d m why ∷ P) busy = busy_is_last c n t P (still_busy (d.0 == c) Waits (standing c P) n t refl busy)
+busy_is_last c n t (entry.Again d counted ∷ P) busy = busy_is_last c n t P (still_busy (d.0 == c) Waits (standing c P) n t refl busy)
+busy_is_last c n t (entry.Told d a ∷ P) busy = busy_is_last c n t P (still_busy (d.0 == c) Ended (standing c P) n t refl busy)
 busy_is_last c n t (e ∷ P) busy = busy_is_last c n t P busy
 
 -- a call about an attempt that its command is busy with fits

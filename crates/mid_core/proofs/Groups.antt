@@ -3,7 +3,7 @@ use Rattle.std.proofs.Common.{◌≡◌, ◌∙◌, sym, ap, subst, refl, ℕ, z
 use Rattle.std.specs.Prelude.{nat_le, nat_lt}
 use Rattle.std.specs.List.{list_any, list_all}
 use Rattle.std.proofs.lemmas.Option.{same_Some}
-use Rattle.std.proofs.lemmas.Bool.{eq-eqb, lt-ltb, and_parts, false≢true}
+use Rattle.std.proofs.lemmas.Bool.{eq-eqb, ne_eqb, lt-ltb, and_parts, false≢true}
 use Rattle.mid_base.specs.declared.answers.Answer.{Answer}
 use Rattle.mid_base.specs.declared.answers.BusyOf.{BusyOf}
 use Rattle.mid_base.specs.declared.answers.By.TheVariants.{Answer as ByAnswer, Expiry as ByExpiry}
@@ -37,7 +37,7 @@ use Rattle.trace_model.specs.Legal.{Group}
 use Rattle.trace_model.specs.Names.{command, dev_of}
 use Rattle.trace_model.specs.Sending.{is_next_of_lane, is_refused, is_stranded, is_least_free}
 use Rattle.mid_base.specs.Limits.{last_number}
-use Rattle.trace_model.specs.Steps.{barred, opens}
+use Rattle.trace_model.specs.Steps.{barred, opens, IsAdded}
 use Rattle.trace_model.specs.Time.{is_expired, is_claimed, may_ask}
 use Rattle.attempt_table.specs.declared.rows.Row.{Row}
 use Rattle.attempt_table.specs.Rows.{row_of, claims_by, open_in, answered_in, due_in, owner_in, settled_in, answer_in, command_in}
@@ -230,12 +230,19 @@ module _ (s : HostSpec) (P : List Entry) (r : Running) (runs : HostAgrees s P r)
   giving_up : to_abort P row.command.0 n.0 ≡ true
   giving_up = rw (owned_by s P r runs n row ByExpiry is, unsettled s P r runs n row ByExpiry is, of_command s P r runs n row ByExpiry is, same row.command.0) refl
 
+  group_by : (b : Bool) → has_abort_left s P row.command.0 ≡ b → Group s P (cond b (entry.AbortSet row.command n) (entry.Failed row.command n true) ∷ [])
+  group_by true left = (rw (giving_up, left) refl, tt)
+  group_by false left = (rw (giving_up, left) refl, tt)
+
+  added_by : (b : Bool) → has_abort_left s P row.command.0 ≡ b → IsAdded s P (cond b (entry.AbortSet row.command n) (entry.Failed row.command n true) ∷ [])
+  added_by true left = group_by true left
+  added_by false left = group_by false left
+
   pub group_expired : (e : Entry) → e ≡ after_expiry s P row.command n → Group s P (e ∷ [])
-  group_expired e right = subst (λ (x : Entry). Group s P (x ∷ [])) (sym right) (by_left (has_abort_left s P row.command.0) refl)
-    where
-      by_left : (b : Bool) → has_abort_left s P row.command.0 ≡ b → Group s P (cond b (entry.AbortSet row.command n) (entry.Failed row.command n true) ∷ [])
-      by_left true left = (rw (giving_up, left) refl, tt)
-      by_left false left = (rw (giving_up, left) refl, tt)
+  group_expired e right = subst (λ (x : Entry). Group s P (x ∷ [])) (sym right) (group_by (has_abort_left s P row.command.0) refl)
+
+  pub added_expired : (e : Entry) → e ≡ after_expiry s P row.command n → IsAdded s P (e ∷ [])
+  added_expired e right = subst (λ (x : Entry). IsAdded s P (x ∷ [])) (sym right) (added_by (has_abort_left s P row.command.0) refl)
 
 pub opens_expired : (s : HostSpec) (P : List Entry) (c : CmdId) (n : Attempt) → opens s P (step.Settle n) (after_expiry s P c n) ≡ true
 opens_expired s P c n = by_left (has_abort_left s P c.0)
@@ -266,6 +273,12 @@ module _ (s : HostSpec) (P : List Entry) (n : Attempt) (asked : may_ask s P n.0 
   group_asked (entry.DoneSaid m) is = (ap (λ (x : Attempt). may_ask s P x.0) is ∙ asked, tt)
   group_asked e is = absurd is
 
+  pub added_asked : (e : Entry) → IsSaidOf n e → IsAdded s P (e ∷ [])
+  added_asked (entry.Due m) is = group_asked (entry.Due m) is
+  added_asked (entry.Longer m) is = group_asked (entry.Longer m) is
+  added_asked (entry.DoneSaid m) is = group_asked (entry.DoneSaid m) is
+  added_asked e is = absurd is
+
 pub opens_asked : (s : HostSpec) (P : List Entry) (n : Attempt) (e : Entry) → IsSaidOf n e → opens s P step.Due e ≡ true
 opens_asked s P n (entry.Due m) is = refl
 opens_asked s P n (entry.Longer m) is = refl
@@ -291,7 +304,7 @@ module _ (s : HostSpec) (P : List Entry) (n : Attempt) (late_one : nat_lt 0 (lat
     where
       not_none : (m : ℕ) → nat_lt 0 m ≡ true → (m == 0) ≡ false
       not_none zero h = cc
-      not_none (suc m) h = refl
+      not_none (suc m) h = ne_eqb (suc m) 0 (λ e. omega (arith, e))
 
 pub no_late_bars : (s : HostSpec) (P : List Entry) (n : Attempt) → nat_lt 0 (late n.0 P) ≡ false → (due : Bool) → barred s due P (step.Drop n) ≡ Some NotLate
 no_late_bars s P n none due = rw (is_none_late (late n.0 P) none) refl

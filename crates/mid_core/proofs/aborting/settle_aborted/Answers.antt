@@ -1,4 +1,4 @@
-use Rattle.std.proofs.Common.{◌≡◌, ◌<◌, ◌∙◌, sym, ap, subst, refl, length, true, false, Bool, List, ◌∷◌, arith}
+use Rattle.std.proofs.Common.{◌≡◌, ◌<◌, ◌∙◌, sym, ap, subst, refl, length, true, false, Bool, None, List, ◌∷◌, arith}
 use Rattle.std.proofs.lemmas.Option.{same_Some}
 use Rattle.mid_base.specs.declared.answers.Answer.{Answer}
 use Rattle.mid_base.specs.declared.entries.Entry.TheVariants as entry
@@ -12,18 +12,10 @@ use Rattle.mid_core.proofs.Judged.{place_within, command_within, few_allowed, re
 use Rattle.mid_core.proofs.Offered.{read_there}
 use Rattle.mid_core.proofs.aborting.settle_aborted.Goals as goal
 
-is_so : (b : Bool) → not b ≡ false → b ≡ true
-is_so true h = refl
-is_so false h = cc
-
-isnt_so : (b : Bool) → not b ≡ true → b ≡ false
-isnt_so true h = cc
-isnt_so false h = refl
-
 pub returns-then-not-ok-clause-runs : goal.returns-then-not-ok-clause-runs
 returns-then-not-ok-clause-runs c = λ P runs.
     subst (λ (b : Bool). HostAgrees c.args.spec.now (entry.Failed c.args.row.command c.args.n true ∷ entry.Aborted c.args.row.command c.args.n b ∷ P) c.fail_aborted.new.self)
-    (sym (isnt_so c.args.ok c.if-not-ok.true)) (c.fail_aborted.ensures.runs c.args.spec.now P runs)
+    (sym c.if-not-ok.true) (c.fail_aborted.ensures.runs c.args.spec.now P runs)
 
 pub bounds-as_slice-row : goal.bounds-as_slice-row
 bounds-as_slice-row c =
@@ -52,7 +44,7 @@ retry_aborted-requires-clause-few c = λ x at.
     let says = sym c.verdict.ensures ∙ c.in-Again.is in
     let few = few_allowed c.args.spec.now c.requires.runs.1.limits c.args.row.place k read in
     let same : kept ≡ x = same_Some kept x (sym c.command-kept.ensures ∙ at) in
-    let fewer : kept.retries < k.allowed = has_retries k kept.retries c.device_state-state.result _ says in
+    let fewer : kept.retries < k.allowed = has_retries k kept.retries c.device_state-state.result None says in
     omega (arith, few, fewer, ap (λ (r : CommandRow). r.retries) same)
 
 pub returns-in-Again-clause-entry : goal.returns-in-Again-clause-entry
@@ -65,14 +57,14 @@ returns-in-Again-clause-entry c = λ P runs.
     let says = sym c.verdict.ensures ∙ c.in-Again.is in
     let may : may_retry c.args.spec.now P c.args.row.command.0 ≡ true =
     retry_is c.args.spec.now P c.args.running.now runs c.args.n.0 c.args.row first.at kept c.command-kept.ensures k c.device_state-state.result read c.device_state-state.ensures
-    ∙ goes_again k kept.retries c.device_state-state.result _ says
+    ∙ goes_again k kept.retries c.device_state-state.result None says
     in
-    subst (λ (b : Bool). entry.Again c.args.row.command true ≡ after_abort c.args.spec.now P c.args.row.command c.args.n b) (sym (is_so c.args.ok c.if-not-ok.false)) (rw may refl)
+    subst (λ (b : Bool). entry.Again c.args.row.command true ≡ after_abort c.args.spec.now P c.args.row.command c.args.n b) (sym c.if-not-ok.false) (rw may refl)
 
 pub returns-in-Again-clause-runs : goal.returns-in-Again-clause-runs
 returns-in-Again-clause-runs c = λ P runs.
     subst (λ (b : Bool). HostAgrees c.args.spec.now (entry.Again c.args.row.command true ∷ entry.Aborted c.args.row.command c.args.n b ∷ P) c.retry_aborted.new.self)
-    (sym (is_so c.args.ok c.if-not-ok.false)) (c.retry_aborted.ensures.runs c.args.spec.now P runs)
+    (sym c.if-not-ok.false) (c.retry_aborted.ensures.runs c.args.spec.now P runs)
 
 pub returns-in-Told-clause-entry : goal.returns-in-Told-clause-entry
 returns-in-Told-clause-entry c = λ P runs.
@@ -86,10 +78,10 @@ returns-in-Told-clause-entry c = λ P runs.
     let may : may_retry c.args.spec.now P c.args.row.command.0 ≡ false =
     retry_is c.args.spec.now P c.args.running.now runs c.args.n.0 c.args.row first.at kept c.command-kept.ensures k c.device_state-state.result read c.device_state-state.ensures ∙ told.0
     in
-    subst (λ (b : Bool). entry.Told c.args.row.command c.in-Told.answer ≡ after_abort c.args.spec.now P c.args.row.command c.args.n b) (sym (is_so c.args.ok c.if-not-ok.false))
+    subst (λ (b : Bool). entry.Told c.args.row.command c.in-Told.answer ≡ after_abort c.args.spec.now P c.args.row.command c.args.n b) (sym c.if-not-ok.false)
     (rw may (ap (entry.Told c.args.row.command) told.1))
 
 pub returns-in-Told-clause-runs : goal.returns-in-Told-clause-runs
 returns-in-Told-clause-runs c = λ P runs.
     subst (λ (b : Bool). HostAgrees c.args.spec.now (entry.Told c.args.row.command c.in-Told.answer ∷ entry.Aborted c.args.row.command c.args.n b ∷ P) c.report_aborted.new.self)
-    (sym (is_so c.args.ok c.if-not-ok.false)) (c.report_aborted.ensures.runs c.args.spec.now P c.in-Told.answer runs)
+    (sym c.if-not-ok.false) (c.report_aborted.ensures.runs c.args.spec.now P c.in-Told.answer runs)

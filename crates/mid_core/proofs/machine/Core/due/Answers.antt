@@ -2,7 +2,7 @@ use Rattle.std.proofs.Common.{reverse, ◌∙◌, ap, refl, List, [], ◌∷◌}
 use Rattle.mid_base.specs.declared.entries.Entry.{Entry}
 use Rattle.mid_base.specs.Past.{ticks}
 use Rattle.mid_core.proofs.Asked.{still_asked}
-use Rattle.mid_core.proofs.Groups.{group_asked, nothing_bars_asking, opens_asked, asked_enters}
+use Rattle.mid_core.proofs.Groups.{group_asked, added_asked, nothing_bars_asking, opens_asked, asked_enters}
 use Rattle.mid_core.proofs.Growing.{core_grows, added, back}
 use Rattle.mid_core.proofs.machine.Core.due.Goals as goal
 
@@ -25,7 +25,7 @@ ask-said-requires-clause-asked g c =
     let r = c.self.inside.running in
     let due = c.in-Some.ensures spec P core.runs in
     let roomy = c.in_ok-reserve-2.ensures in
-    still_asked spec P r c.reserve-2.new.self c.in-Some.n (roomy.same spec P core.runs) roomy.deadlines roomy.ticks due.2
+    λ κs sub. still_asked spec P r c.reserve-2.new.self c.in-Some.n (roomy.same spec P core.runs) roomy.deadlines roomy.ticks due.2
 
 pub invariant_of-self-2 : goal.invariant_of-self-2
 invariant_of-self-2 g c =
@@ -63,7 +63,7 @@ returns g c =
       journal = added c.self.inside.book.entries _ _ said c.in_ok-reserve.ensures.entries c.push.ensures.entries;
       adds = record {
         opened = opens_asked spec P n said is;
-        added = group_asked spec P n due.1 said is;
+        added = added_asked spec P n due.1 said is;
         free = nothing_bars_asking spec P due.0 (g.A.HostTemplate.is_due c.self.inside.lower (ticks P));
       };
       enters = asked_enters n said is;

@@ -9,7 +9,7 @@ use Rattle.host_template.specs.Laws.{IsSilent}
 use Rattle.trace_model.specs.Steps.{opens}
 use Rattle.mid_core.specs.Choices.{follow_of}
 use Rattle.mid_core.specs.Steps.{may_enter}
-use Rattle.mid_core.proofs.Groups.{group_judged, group_expired, nothing_bars_settling, opens_judged, opens_expired, follow_silent, follow_enters, expired_silent, expired_enters}
+use Rattle.mid_core.proofs.Groups.{group_judged, group_expired, added_expired, nothing_bars_settling, opens_judged, opens_expired, follow_silent, follow_enters, expired_silent, expired_enters}
 use Rattle.mid_core.proofs.Growing.{core_grows, added, back, added2, back2}
 use Rattle.mid_core.proofs.machine.Core.settle.Goals as goal
 
@@ -28,7 +28,7 @@ invariant_of-self-in-Some-Answered g c =
     let follow = follow_of row.command n a d in
     let told = (rw c.in-Some-Answered.field-0-is at c.in-Some-Answered.ensures) spec P core.runs in
     let silent = laws.silent c.self.inside.lower spec before in
-    rw (back2 c.self.inside.book.entries _ _ _ (Judged row.command n d) c.settle_by-follows.result c.in_ok-reserve-in-Some-Answered.ensures.entries c.push.ensures.entries c.push-2.ensures.entries, c.settle_by-follows.ensures.entry)
+    rw (back2 c.self.inside.book.entries _ _ _ (Judged row.command n d) c.settle_by-follows.result c.in_ok-reserve-in-Some-Answered.ensures.entries c.push.ensures.entries c.push-in-Some-Answered.ensures.entries, c.settle_by-follows.ensures.entry)
     (core_grows _ _ _ _ _ P (Judged row.command n d ∷ follow ∷ []) _ _ core
     (group_judged spec P r core.runs n row a told.0 told.1 d (c.judge-disposition.ensures.disp P core.runs))
     (silent (Judged row.command n d ∷ P) follow (follow_silent spec row.command n a d) (silent P (Judged row.command n d) tt core.stood))
@@ -51,7 +51,7 @@ returns-in_ok-reserve-in-Some-Answered g c =
       spec = refl;
       before = refl;
       group = Judged row.command n d ∷ follow ∷ [];
-      journal = added2 c.self.inside.book.entries _ _ _ (Judged row.command n d) follow c.in_ok-reserve-in-Some-Answered.ensures.entries c.push.ensures.entries (rw c.settle_by-follows.ensures.entry at c.push-2.ensures.entries);
+      journal = added2 c.self.inside.book.entries _ _ _ (Judged row.command n d) follow c.in_ok-reserve-in-Some-Answered.ensures.entries c.push.ensures.entries (rw c.settle_by-follows.ensures.entry at c.push-in-Some-Answered.ensures.entries);
       adds = record {
         opened = opens_judged spec P n row.command d;
         added = group_judged spec P r core.runs n row a told.0 told.1 d (c.judge-disposition.ensures.disp P core.runs);
@@ -99,7 +99,7 @@ returns-in_ok-reserve-in-Some-Expired g c =
       journal = added c.self.inside.book.entries _ _ e c.in_ok-reserve-in-Some-Expired.ensures.entries c.push-in-Some-Expired.ensures.entries;
       adds = record {
         opened = subst (λ (x : Entry). opens spec P (Settle n) x ≡ true) (sym right) (opens_expired spec P row.command n);
-        added = group_expired spec P r core.runs n row told e right;
+        added = added_expired spec P r core.runs n row told e right;
         free = nothing_bars_settling spec P r core.runs n row ByExpiry told (g.A.HostTemplate.is_due c.self.inside.lower (ticks P));
       };
       enters = subst (λ (x : Entry). list_all (may_enter (Settle n)) (x ∷ []) ≡ true) (sym right) (expired_enters spec P row.command n);
