@@ -1,7 +1,7 @@
 use Rattle.std.proofs.Common.{◌≡◌, ◌∙◌, ap, refl, ℕ, false, true, List, [], ◌∷◌, set, length, Option, Some}
 use Rattle.std.specs.Prelude.{slice_get, option_map}
 use Rattle.mid_base.specs.declared.entries.Entry.{Entry}
-use Rattle.mid_base.specs.declared.entries.Entry.TheVariants.{Took, Sent}
+use Rattle.mid_base.specs.declared.entries.Entry.TheVariants.{Took}
 use Rattle.mid_base.specs.declared.host_spec.CmdSpec.{CmdSpec}
 use Rattle.mid_base.specs.declared.host_spec.HostSpec.{HostSpec}
 use Rattle.mid_base.specs.declared.host_spec.LunSpec.{LunSpec}
@@ -28,9 +28,14 @@ module _ (k : CmdSpec) (l : LunSpec) (t : Commands) (place : ℕ) (starts : (s :
   next_row : (r : CommandRow) × (slice_get t.rows.items place ≡ Some r)
   next_row = row_here (λ r. r.standing) t.rows.items place New next_is.fresh
 
--- what is written at a place is said of it
-said : {A : Type 0} (f : CommandRow → A) (rows new : List CommandRow) (i : ℕ) (r q : CommandRow) → slice_get rows i ≡ Some r → new ≡ set rows i q → option_map f (slice_get new i) ≡ Some (f q)
-said f rows new i r q at is = ap (λ (xs : List CommandRow). option_map f (slice_get xs i)) is ∙ ap (option_map f) (get_same rows i r q at)
+  -- its row once it is taken
+  abbrev taken_row : CommandRow
+  taken_row = record next_row.0 { standing = Waits; order = length t.taken.items }
+
+  taken_there : (new : List CommandRow)
+      → ((r : CommandRow) → slice_get t.rows.items place ≡ Some r → new ≡ set t.rows.items place (record r { standing = Waits; order = length t.taken.items }))
+      → slice_get new place ≡ Some taken_row
+  taken_there new written = ap (λ (xs : List CommandRow). slice_get xs place) (written next_row.0 next_row.1) ∙ get_same t.rows.items place next_row.0 taken_row next_row.1
 
 pub take-requires-clause-fresh : goal.take-requires-clause-fresh
 take-requires-clause-fresh c = (next_is c.command.result c.unit.result c.in-Ok.table c.in-Some.place c.in-Ok.ensures c.in-Some.ensures).fresh
@@ -43,9 +48,7 @@ take-requires-clause-housed c = (next_is c.command.result c.unit.result c.in-Ok.
 
 pub send-requires-clause-waits : goal.send-requires-clause-waits
 send-requires-clause-waits c =
-    let t = c.in-Ok.table in
-    let row = next_row c.command.result c.unit.result t c.in-Some.place c.in-Ok.ensures c.in-Some.ensures in
-    said (λ r. r.standing) t.rows.items c.take.new.self.rows.items c.in-Some.place row.0 (record row.0 { standing = Waits; order = length t.taken.items }) row.1 (c.in-Ok-take.ensures.row row.0 row.1)
+    ap (option_map (λ r. r.standing)) (taken_there c.command.result c.unit.result c.in-Ok.table c.in-Some.place c.in-Ok.ensures c.in-Some.ensures c.take.new.self.rows.items c.in-Ok-take.ensures.row)
 
 pub send-requires-clause-housed : goal.send-requires-clause-housed
 send-requires-clause-housed c =
@@ -56,8 +59,11 @@ send-requires-clause-housed c =
 
 pub returns-clause-busy : goal.returns-clause-busy
 returns-clause-busy c =
-    let row = row_here (λ r. r.standing) c.take.new.self.rows.items c.in-Some.place Waits (send-requires-clause-waits c) in
-    said (λ r. is_busy r.standing) c.take.new.self.rows.items c.send.new.self.rows.items c.in-Some.place row.0 (record row.0 { standing = Busy _ _ }) row.1 (c.send.ensures.row row.0 row.1)
+    let rows = c.take.new.self.rows.items in
+    let r = taken_row c.command.result c.unit.result c.in-Ok.table c.in-Some.place c.in-Ok.ensures c.in-Some.ensures in
+    let at = taken_there c.command.result c.unit.result c.in-Ok.table c.in-Some.place c.in-Ok.ensures c.in-Some.ensures rows c.in-Ok-take.ensures.row in
+    ap (λ (xs : List CommandRow). option_map (λ q. is_busy q.standing) (slice_get xs c.in-Some.place)) (c.send.ensures.row r at)
+    ∙ ap (option_map (λ q. is_busy q.standing)) (get_same rows c.in-Some.place r (record r { standing = Busy (record { 0 = 1 }) (record { 0 = 0 }) }) at)
 
 pub returns-clause-housed : goal.returns-clause-housed
 returns-clause-housed c =
@@ -65,5 +71,5 @@ returns-clause-housed c =
     let row = next_row c.command.result c.unit.result t c.in-Some.place c.in-Ok.ensures c.in-Some.ensures in
     let agrees = first_agrees c.command.result c.unit.result t c.in-Some.place c.in-Ok.ensures c.in-Some.ensures in
     let then = c.in-Ok-take.ensures.follows (host c.command.result c.unit.result) [] row.0.id (ap (option_map (λ r. r.id)) row.1) agrees in
-    let later = row_here (λ r. r.standing) c.take.new.self.rows.items c.in-Some.place Waits (send-requires-clause-waits c) in
-    (c.send.ensures.follows (host c.command.result c.unit.result) _ later.0.id (ap (option_map (λ r. r.id)) later.1) then).housed c.in-Some.place
+    let at = taken_there c.command.result c.unit.result t c.in-Some.place c.in-Ok.ensures c.in-Some.ensures c.take.new.self.rows.items c.in-Ok-take.ensures.row in
+    (c.send.ensures.follows (host c.command.result c.unit.result) (Took row.0.id ∷ []) row.0.id (ap (option_map (λ r. r.id)) at) then).housed c.in-Some.place
