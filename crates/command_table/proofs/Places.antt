@@ -1,6 +1,6 @@
 -- Rows found by a command's id and by their place, and what a write at a place changes.
-use Rattle.std.proofs.Common.{◌≡◌, ◌≢◌, ◌∙◌, sym, ap, refl, ℕ, zero, suc, ◌<◌, ◌≤◌, ◌==◌, Bool, true, false, not, ◌||◌, cond, List, [], ◌∷◌, length, set, map, Some, arith, inl, inr}
-use Rattle.std.specs.Prelude.{find, slice_get}
+use Rattle.std.proofs.Common.{◌≡◌, ◌≢◌, ◌∙◌, sym, ap, refl, ℕ, zero, suc, ◌<◌, ◌≤◌, ◌==◌, Bool, true, false, not, ◌||◌, cond, List, [], ◌∷◌, length, set, map, Option, None, Some, arith, inl, inr}
+use Rattle.std.specs.Prelude.{find, option_map, slice_get}
 use Rattle.std.specs.List.{list_any}
 use Rattle.std.proofs.lemmas.Bool.{cases_Bool, false≢true, eq-eqb, eqb-true, ne_eqb, and_parts, not-true}
 use Rattle.std.proofs.lemmas.Option.{same_Some, none-some}
@@ -98,7 +98,7 @@ starts_for luns [] = tt
 starts_for luns (k ∷ ks) = (refl, refl, refl, starts_for luns ks)
 
 -- what stands at a place after a write
-get_same : {A : Type 0} (xs : List A) (i : ℕ) (x y : A) → slice_get xs i ≡ Some x → slice_get (set xs i y) i ≡ Some y
+pub get_same : {A : Type 0} (xs : List A) (i : ℕ) (x y : A) → slice_get xs i ≡ Some x → slice_get (set xs i y) i ≡ Some y
 get_same [] i x y at = absurd (none-some x at)
 get_same (z ∷ xs) zero x y at = refl
 get_same (z ∷ xs) (suc i) x y at = get_same xs i x y at
@@ -115,6 +115,14 @@ get_set xs i j x y at = elim (cases_Bool (i == j)) as (λ _. slice_get (set xs i
   | inl is ↦ let e : i ≡ j = eqb-true i j is in rw (is, ← e) (get_same xs i x y at)
   | inr isnt ↦ rw isnt (get_other xs i j y (λ e. false≢true (sym isnt ∙ eq-eqb i j e)))
 ]
+
+-- there is a row where something is said of it
+pub row_here : {A : Type 0} (f : CommandRow → A) (rs : List CommandRow) (i : ℕ) (x : A) → option_map f (slice_get rs i) ≡ Some x → (r : CommandRow) × (slice_get rs i ≡ Some r)
+row_here {A} f rs i x is = found (slice_get rs i) refl is
+  where
+    found : (o : Option CommandRow) → slice_get rs i ≡ o → option_map f o ≡ Some x → (r : CommandRow) × (slice_get rs i ≡ Some r)
+    found None get e = absurd (none-some x e)
+    found (Some r) get e = (r, get)
 
 -- the first command of a lane that isn't handed in
 pub first_is : (lane : ℕ) (rs : List CommandRow) (j : ℕ) → ((k : ℕ) (r : CommandRow) → k < j → slice_get rs k ≡ Some r → is_left lane r ≡ false)

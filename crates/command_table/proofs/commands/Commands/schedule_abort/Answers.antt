@@ -1,6 +1,4 @@
 use Rattle.std.proofs.Common.{◌≡◌, ◌∙◌, sym, ap, refl, true, List, length, ◌+◌, cond}
-use Rattle.std.specs.Prelude.{◌==◌}
-use Rattle.trace_model.specs.Commands.{is_busy}
 use Rattle.command_table.specs.declared.line.Line.{Line}
 use Rattle.command_table.specs.Rows.{is_open, is_out}
 use Rattle.command_table.specs.Sets.{has, out_of}

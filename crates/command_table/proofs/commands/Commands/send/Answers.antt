@@ -1,4 +1,4 @@
-use Rattle.std.proofs.Common.{◌≡◌, ◌∙◌, sym, ap, refl, ℕ, true, false, List, length}
+use Rattle.std.proofs.Common.{◌≡◌, ◌∙◌, sym, ap, refl, true, List, length}
 use Rattle.std.specs.Prelude.{◌==◌, ◌&&◌, not, Bool}
 use Rattle.trace_model.specs.declared.standing.Standing.TheVariants.{Waits, Busy}
 use Rattle.trace_model.specs.Commands.{waits, is_busy}

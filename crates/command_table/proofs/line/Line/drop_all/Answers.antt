@@ -1,7 +1,7 @@
-use Rattle.std.proofs.Common.{rules, ◌≡◌, ◌∙◌, ap, sym, subst, heap_items, ◌==◌, not, length, ◌<◌, arith}
+use Rattle.std.proofs.Common.{rules, ◌∙◌, ap, sym, heap_items, ◌==◌, not, length, arith}
 use Rattle.std.proofs.lemmas.Fn.{filter_same}
 use Rattle.std.proofs.lemmas.List.Sorted.{length_permutation}
-use Rattle.std.specs.List.{filter, list_any}
+use Rattle.std.specs.List.{list_any}
 use Rattle.std.proofs.lemmas.List.Sorted.{list_any-IsPermutation}
 use Rattle.command_table.proofs.Heaped.{left_held, fewer_left}
 use Rattle.command_table.proofs.line.Line.drop_all.Goals as goal

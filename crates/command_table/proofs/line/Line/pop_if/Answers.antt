@@ -1,6 +1,6 @@
 use Rattle.std.proofs.Common.{◌<◌, refl, arith, heap_items, heap_len}
 use Rattle.std.proofs.lemmas.Bool.{eq-eqb}
-use Rattle.command_table.proofs.Heaped.{popped_held, popped_first}
+use Rattle.command_table.proofs.Heaped.{popped_first}
 use Rattle.command_table.proofs.line.Line.pop_if.Goals as goal
 
 pub returns-then-least-order-clause-others : goal.returns-then-least-order-clause-others
