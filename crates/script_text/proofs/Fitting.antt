@@ -116,10 +116,15 @@ step_of_fits (Some names.Submit) said h [] e f = absurd (cc)
 step_of_fits (Some names.Submit) said h (lane ∷ rest) e f = lane_fits (Some h) lane f.0
 step_of_fits (Some names.Send) said h rest e f = tt
 step_of_fits (Some names.Work) said h rest e f = tt
+step_of_fits (Some names.Due) said h rest e f = tt
 step_of_fits (Some names.Own) said h [] e f = absurd (cc)
-step_of_fits (Some names.Own) said h (attempt ∷ rest) e f = attempt_fits attempt f.0
+step_of_fits (Some names.Own) said h (attempt ∷ []) e f = absurd (let g = f.1 in cc g)
+step_of_fits (Some names.Own) said h (attempt ∷ owner ∷ rest) e f = attempt_fits attempt f.0
 step_of_fits (Some names.Settle) said h [] e f = absurd (cc)
 step_of_fits (Some names.Settle) said h (attempt ∷ rest) e f = attempt_fits attempt f.0
+step_of_fits (Some names.Drop) said h [] e f = absurd (cc)
+step_of_fits (Some names.Drop) said h (attempt ∷ rest) e f = attempt_fits attempt f.0
+step_of_fits (Some names.Abort) said h rest e f = tt
 step_of_fits (Some names.Tick) said h rest e f = tt
 step_of_fits (Some names.State) said h [] e f = absurd (cc)
 step_of_fits (Some names.State) said h (unit ∷ []) e f = absurd (let g = f.1 in cc g)

@@ -15,7 +15,6 @@ use Rattle.mid_base.specs.declared.host_spec.LunSpec.{LunSpec}
 use Rattle.mid_base.specs.declared.host_spec.CmdSpec.{CmdSpec}
 use Rattle.mid_base.specs.declared.host_spec.HostSpec.{HostSpec}
 use Rattle.mid_base.specs.declared.states.DeviceState.TheVariants.{Running}
-use Rattle.mid_base.specs.declared.answers.By.TheVariants as owners
 use Rattle.mid_base.specs.declared.steps.Step.{Step}
 use Rattle.mid_base.specs.declared.steps.Step.TheVariants as steps
 use Rattle.script_words.specs.declared.kind.Kind.{Kind}
@@ -71,19 +70,14 @@ one_step_more hosts (t ∷ steps) s all one = (all.0, one_step_more hosts steps 
 
 unit_widens : (l : LunSpec) → Widens (with_unit l)
 unit_widens l h (steps.SetState dev state) e = any_kept (λ m. same_dev m.dev dev) h.luns (l ∷ []) e
-unit_widens l h (steps.Own n owners.Answer) e = e
-unit_widens l h (steps.Own n owners.Expiry) e = e
 unit_widens l h _ e = e
 
 planned_widens : (p : PlanEntry) → Widens (with_planned p)
-planned_widens p h (steps.Own n owners.Answer) e = e
-planned_widens p h (steps.Own n owners.Expiry) e = e
+planned_widens p h (steps.SetState dev state) e = e
 planned_widens p h _ e = e
 
 command_widens : (k : CmdSpec) → Widens (with_command k)
 command_widens k h (steps.Submit lane) e = any_kept (λ j. j.lane.0 == lane.0) h.cmds (k ∷ []) e
-command_widens k h (steps.Own n owners.Answer) e = e
-command_widens k h (steps.Own n owners.Expiry) e = e
 command_widens k h _ e = e
 
 -- a key is half a byte

@@ -18,7 +18,7 @@ use Rattle.script_words.specs.declared.plan_kinds.PlanKind.TheVariants as plans
 use Rattle.script_words.specs.Pieces.{value}
 use Rattle.script_words.specs.Hex.{bytes_value, byte_value, half_value, cdb_of, sense_of}
 use Rattle.script_words.specs.Words.{handlers_value, address_value}
-use Rattle.script_words.specs.Keywords.{step_name, plan_kind, state, failfast}
+use Rattle.script_words.specs.Keywords.{step_name, plan_kind, owner, state, failfast}
 use Rattle.script_text.specs.Said.{Said, on_host, with_unit, with_planned, with_command}
 use Rattle.script_text.specs.Slots.{is_read_only, is_stopped}
 
@@ -27,8 +27,11 @@ abbrev pub step_of : Option StepName → List (List ℕ) → Step
 step_of (Some names.Submit) (lane ∷ rest) = steps.Submit (record { 0 = value lane })
 step_of (Some names.Send) rest = steps.Send
 step_of (Some names.Work) rest = steps.Work
-step_of (Some names.Own) (attempt ∷ rest) = steps.Own (record { 0 = value attempt }) Answer
+step_of (Some names.Due) rest = steps.Due
+step_of (Some names.Own) (attempt ∷ name ∷ rest) = steps.Own (record { 0 = value attempt }) (unwrap_or (owner name) Answer)
 step_of (Some names.Settle) (attempt ∷ rest) = steps.Settle (record { 0 = value attempt })
+step_of (Some names.Drop) (attempt ∷ rest) = steps.Drop (record { 0 = value attempt })
+step_of (Some names.Abort) rest = steps.Abort
 step_of (Some names.State) (unit ∷ name ∷ rest) = steps.SetState (address_value unit) (unwrap_or (state name) Running)
 step_of _ _ = steps.Tick
 

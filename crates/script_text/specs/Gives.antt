@@ -81,10 +81,10 @@ CodesGive said host words (Ok codes) =
     (first_fault said host (slots.Half ∷ slots.Byte ∷ slots.Byte ∷ []) words ≡ None) × (fault_of plans.Check words ≡ made.Check codes.0 codes.1 codes.2) × (fault_of plans.NoSense words ≡ made.NoSense codes.0 codes.1 codes.2)
 CodesGive said host words (Err kind) = first_fault said host (slots.Half ∷ slots.Byte ∷ slots.Byte ∷ []) words ≡ Some kind
 
--- a fault without values
-abbrev pub LastGives : Fault → List (List ℕ) → Result Fault LineFault → Type 0
-LastGives fault [] result = result ≡ Ok fault
-LastGives fault (word ∷ rest) result = result ≡ Err (faults.Bad Extra)
+-- a fault or a step without further values
+abbrev pub LastGives : {V E : Type 0} → (Kind → E) → V → List (List ℕ) → Result V E → Type 0
+LastGives wrong v [] result = result ≡ Ok v
+LastGives wrong v (word ∷ rest) result = result ≡ Err (wrong Extra)
 
 -- how the lines go on behind one that is bad or not
 abbrev pub go_on_unless : Option Bad → Result Script Bad → Result Script Bad

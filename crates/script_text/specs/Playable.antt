@@ -3,11 +3,10 @@ use Rattle.std.specs.Prelude.{◌≡◌, ℕ, ◌==◌, ◌^◌, ◌<◌, Bool, 
 use Rattle.std.specs.List.{list_any}
 use Rattle.mid_base.specs.Limits.{KeepsLimits}
 use Rattle.mid_base.specs.Address.{has_dev}
-use Rattle.mid_base.specs.declared.answers.By.TheVariants as owners
 use Rattle.mid_base.specs.declared.host_spec.HostSpec.{HostSpec}
 use Rattle.mid_base.specs.declared.names.HostNo.{HostNo}
 use Rattle.mid_base.specs.declared.steps.Step.{Step}
-use Rattle.mid_base.specs.declared.steps.Step.TheVariants.{Submit, Send, Work, Own, Settle, Tick, SetState}
+use Rattle.mid_base.specs.declared.steps.Step.TheVariants.{Submit, Send, Work, Due, Own, Settle, Drop, Abort, Tick, SetState}
 use Rattle.script_text.specs.declared.script.Script.{Script}
 use Rattle.script_text.specs.Said.{host_of, has_lane}
 
@@ -16,8 +15,11 @@ abbrev pub IsStepOn : HostSpec → Step → Type 0
 IsStepOn h (Submit lane) = has_lane h.cmds lane.0 ≡ true
 IsStepOn h Send = Unit {0}
 IsStepOn h Work = Unit {0}
-IsStepOn h (Own n owners.Answer) = n.0 < 2 ^ 60
+IsStepOn h Due = Unit {0}
+IsStepOn h (Own n by) = n.0 < 2 ^ 60
 IsStepOn h (Settle n) = n.0 < 2 ^ 60
+IsStepOn h (Drop n) = n.0 < 2 ^ 60
+IsStepOn h Abort = Unit {0}
 IsStepOn h Tick = Unit {0}
 IsStepOn h (SetState dev state) = has_dev h.luns dev ≡ true
 IsStepOn h _ = ⊥

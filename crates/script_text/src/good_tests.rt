@@ -167,7 +167,14 @@ fn each_state_and_step_is_said(rt: HostRuntime) -> Result<(), Fail> {
     let table = [
         ("send", Step::Send),
         ("work", Step::Work),
+        ("due", Step::Due),
+        ("own 1 expiry", Step::Own(Attempt(1), By::Expiry)),
         ("settle 0", Step::Settle(Attempt(0))),
+        (
+            "drop 1152921504606846975",
+            Step::Drop(Attempt(1_152_921_504_606_846_975)),
+        ),
+        ("abort", Step::Abort),
         ("tick", Step::Tick),
         (
             "state 0:0:1 running",

@@ -1,13 +1,14 @@
 ghost use Rattle.std.specs.Prelude.{◌≡◌, Some};
+ghost use Rattle.mid_base.specs.Limits.{last_number};
 ghost use Rattle.script_words.specs.Pieces.{number};
 ghost use Rattle.script_words.specs.Words.{address};
-ghost use Rattle.script_words.specs.Faults.{Gives};
+ghost use Rattle.script_words.specs.Faults.{Gives, number_fault};
 ghost use Rattle.script_text.specs.Slots.{KnownHost, RoomyHost, new_host_fault, new_unit_fault, unit_fault, new_command_fault, lane_fault};
 ghost use Rattle.script_text.specs.Gives.{seen, HostGives};
 
 use crate::draft::Draft;
 use crate::host_draft::HostDraft;
-use mid_base::{DevAddr, LaneNo};
+use mid_base::{DevAddr, LAST_NUMBER, LaneNo};
 use script_words::{Kind, address_in, number_in};
 
 /// The next word as the number of a host that no earlier line has.
@@ -92,4 +93,12 @@ pub fn lane_in(host: &HostDraft, word: Option<&[u8]>) -> Result<u128, Kind>
     } else {
         Err(Kind::Unknown)
     }
+}
+
+/// The next word as the number of an attempt.
+pub fn attempt_in(word: Option<&[u8]>) -> Result<u64, Kind>
+    ensures { Gives (number_fault 0 last_number) number word.entry result }
+{
+    let attempt = number_in(word, 0, u128::from(LAST_NUMBER))?;
+    Ok(attempt as u64)
 }

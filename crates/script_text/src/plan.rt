@@ -43,7 +43,7 @@ pub fn fault_in(alloc: Global, kind: PlanKind, rest: Words) -> Result<Fault, Lin
 
 /// A fault without values: no word may follow.
 fn last(rest: Words, fault: Fault) -> Result<Fault, LineFault>
-    ensures { LastGives fault (words rest.entry.rest.now) result }
+    ensures { LastGives (λ k. LineFault.Bad k) fault (words rest.entry.rest.now) result }
 {
     let mut words = rest;
     no_more(words.next()).map_err(LineFault::Bad)?;

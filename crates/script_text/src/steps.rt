@@ -1,12 +1,12 @@
 ghost use Rattle.script_words.specs.Pieces.{words};
 ghost use Rattle.script_text.specs.Said.{Said};
-ghost use Rattle.script_text.specs.Gives.{StepGives};
+ghost use Rattle.script_text.specs.Gives.{LastGives, StepGives};
 
 use crate::ends::no_more;
 use crate::host_draft::HostDraft;
-use crate::names::{lane_in, unit_in};
-use mid_base::{Attempt, By, LAST_NUMBER, LaneNo, Step};
-use script_words::{Kind, StepName, Words, exactly, number_in, state_in, step_name_in};
+use crate::names::{attempt_in, lane_in, unit_in};
+use mid_base::{Attempt, LaneNo, Step};
+use script_words::{Kind, StepName, Words, owner_in, state_in, step_name_in};
 
 /// The step of this host that these words name.
 pub fn step_in(host: &HostDraft, rest: Words) -> Result<Step, Kind>
@@ -16,37 +16,39 @@ pub fn step_in(host: &HostDraft, rest: Words) -> Result<Step, Kind>
     match step_name_in(words.next())? {
         StepName::Submit => {
             let lane = lane_in(host, words.next())?;
-            no_more(words.next())?;
-            Ok(Step::Submit(LaneNo(lane as u8)))
+            last(words, Step::Submit(LaneNo(lane as u8)))
         }
-        StepName::Send => {
-            no_more(words.next())?;
-            Ok(Step::Send)
-        }
-        StepName::Work => {
-            no_more(words.next())?;
-            Ok(Step::Work)
-        }
+        StepName::Send => last(words, Step::Send),
+        StepName::Work => last(words, Step::Work),
+        StepName::Due => last(words, Step::Due),
         StepName::Own => {
-            let attempt = number_in(words.next(), 0, u128::from(LAST_NUMBER))?;
-            exactly(words.next(), b"answer")?;
-            no_more(words.next())?;
-            Ok(Step::Own(Attempt(attempt as u64), By::Answer))
+            let attempt = attempt_in(words.next())?;
+            let owner = owner_in(words.next())?;
+            last(words, Step::Own(Attempt(attempt), owner))
         }
         StepName::Settle => {
-            let attempt = number_in(words.next(), 0, u128::from(LAST_NUMBER))?;
-            no_more(words.next())?;
-            Ok(Step::Settle(Attempt(attempt as u64)))
+            let attempt = attempt_in(words.next())?;
+            last(words, Step::Settle(Attempt(attempt)))
         }
-        StepName::Tick => {
-            no_more(words.next())?;
-            Ok(Step::Tick)
+        StepName::Drop => {
+            let attempt = attempt_in(words.next())?;
+            last(words, Step::Drop(Attempt(attempt)))
         }
+        StepName::Abort => last(words, Step::Abort),
+        StepName::Tick => last(words, Step::Tick),
         StepName::State => {
             let dev = unit_in(host, words.next())?;
             let state = state_in(words.next())?;
-            no_more(words.next())?;
-            Ok(Step::SetState(dev, state))
+            last(words, Step::SetState(dev, state))
         }
     }
+}
+
+/// A step that is said whole: no word may follow.
+fn last(rest: Words, step: Step) -> Result<Step, Kind>
+    ensures { LastGives (λ k. k) step (words rest.entry.rest.now) result }
+{
+    let mut words = rest;
+    no_more(words.next())?;
+    Ok(step)
 }

@@ -1,6 +1,8 @@
--- The words that name lines, steps, faults and states.
+-- The words that name lines, steps, owners, faults and states.
 use Rattle.std.specs.Prelude.{ℕ, ◌==◌, Bool, true, false, if◌then◌else◌, List, [], ◌∷◌, Option, Some, None, codes}
 use Rattle.std.specs.Str.{bytes_eq}
+use Rattle.mid_base.specs.declared.answers.By.{By}
+use Rattle.mid_base.specs.declared.answers.By.TheVariants as owners
 use Rattle.mid_base.specs.declared.states.DeviceState.{DeviceState}
 use Rattle.mid_base.specs.declared.states.DeviceState.TheVariants as states
 use Rattle.script_words.specs.declared.keywords.Keyword.{Keyword}
@@ -33,10 +35,20 @@ step_name word =
     if bytes_eq word (codes "submit") then Some steps.Submit
     else if bytes_eq word (codes "send") then Some steps.Send
     else if bytes_eq word (codes "work") then Some steps.Work
+    else if bytes_eq word (codes "due") then Some steps.Due
     else if bytes_eq word (codes "own") then Some steps.Own
     else if bytes_eq word (codes "settle") then Some steps.Settle
+    else if bytes_eq word (codes "drop") then Some steps.Drop
+    else if bytes_eq word (codes "abort") then Some steps.Abort
     else if bytes_eq word (codes "tick") then Some steps.Tick
     else if bytes_eq word (codes "state") then Some steps.State
+    else None
+
+-- the word that names whom an attempt is given to
+unfoldable pub owner : List ℕ → Option By
+owner word =
+    if bytes_eq word (codes "answer") then Some owners.Answer
+    else if bytes_eq word (codes "expiry") then Some owners.Expiry
     else None
 
 -- the word that names a fault of the timer, of an abort, of a reset, or of a probe

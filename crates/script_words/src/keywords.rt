@@ -1,7 +1,7 @@
 ghost use Rattle.std.specs.Prelude.{◌≡◌};
-ghost use Rattle.script_words.specs.Keywords.{keyword, step_name, state, failfast};
+ghost use Rattle.script_words.specs.Keywords.{keyword, step_name, owner, state, failfast};
 
-use mid_base::DeviceState;
+use mid_base::{By, DeviceState};
 
 /// The kinds of lines, which their first words tell.
 #[derive(Clone, Copy, PartialEq, Eq, Debug)]
@@ -21,8 +21,11 @@ pub enum StepName {
     Submit,
     Send,
     Work,
+    Due,
     Own,
     Settle,
+    Drop,
+    Abort,
     Tick,
     State,
 }
@@ -70,17 +73,40 @@ pub fn step_name_of(word: &[u8]) -> Option<StepName>
     if word == b"work".as_slice() {
         return Some(StepName::Work);
     }
+    if word == b"due".as_slice() {
+        return Some(StepName::Due);
+    }
     if word == b"own".as_slice() {
         return Some(StepName::Own);
     }
     if word == b"settle".as_slice() {
         return Some(StepName::Settle);
     }
+    if word == b"drop".as_slice() {
+        return Some(StepName::Drop);
+    }
+    if word == b"abort".as_slice() {
+        return Some(StepName::Abort);
+    }
     if word == b"tick".as_slice() {
         return Some(StepName::Tick);
     }
     if word == b"state".as_slice() {
         return Some(StepName::State);
+    }
+    None
+}
+
+/// Whom this word gives an attempt to: its answer, or its expired timer.
+#[tactic(auto, unfolding(crate::specs::Keywords::owner))]
+pub fn owner_of(word: &[u8]) -> Option<By>
+    ensures { result ≡ owner word.now }
+{
+    if word == b"answer".as_slice() {
+        return Some(By::Answer);
+    }
+    if word == b"expiry".as_slice() {
+        return Some(By::Expiry);
     }
     None
 }

@@ -25,7 +25,7 @@ pub use keywords::{Keyword, StepName, keyword_of};
 pub use kind::{Kind, LineFault};
 pub use pieces::Words;
 pub use places::{
-    address_in, byte_in, exactly, failfast_in, half_in, handlers_in, number_in, plan_kind_in,
-    state_in, step_name_in,
+    address_in, byte_in, exactly, failfast_in, half_in, handlers_in, number_in, owner_in,
+    plan_kind_in, state_in, step_name_in,
 };
 pub use plan_kinds::PlanKind;

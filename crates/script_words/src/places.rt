@@ -2,17 +2,17 @@ ghost use Rattle.std.specs.Prelude.{◌≡◌, Some};
 ghost use Rattle.script_words.specs.Pieces.{number};
 ghost use Rattle.script_words.specs.Hex.{hex_byte, hex_half};
 ghost use Rattle.script_words.specs.Words.{address, handlers};
-ghost use Rattle.script_words.specs.Keywords.{step_name, plan_kind, state, failfast};
+ghost use Rattle.script_words.specs.Keywords.{step_name, plan_kind, owner, state, failfast};
 ghost use Rattle.script_words.specs.Faults.{Gives, number_fault, address_fault, choice_fault, text_fault};
 
 use crate::address::address_parts;
 use crate::handlers::handlers_of;
 use crate::hex::{hex_byte, hex_half};
-use crate::keywords::{StepName, failfast_of, state_of, step_name_of};
+use crate::keywords::{StepName, failfast_of, owner_of, state_of, step_name_of};
 use crate::kind::Kind;
 use crate::number::number;
 use crate::plan_kinds::{PlanKind, plan_kind_of};
-use mid_base::{DevAddr, DeviceState, Handlers};
+use mid_base::{By, DevAddr, DeviceState, Handlers};
 
 /// The next word of a line as a number from `low` to `high`.
 pub fn number_in(word: Option<&[u8]>, low: u128, high: u128) -> Result<u128, Kind>
@@ -105,6 +105,19 @@ pub fn plan_kind_in(word: Option<&[u8]>) -> Result<PlanKind, Kind>
     match plan_kind_of(word) {
         None => Err(Kind::Word),
         Some(kind) => Ok(kind),
+    }
+}
+
+/// The next word as whom an attempt is given to.
+pub fn owner_in(word: Option<&[u8]>) -> Result<By, Kind>
+    ensures { Gives (choice_fault Kind.Word owner) owner word.entry result }
+{
+    let Some(word) = word else {
+        return Err(Kind::Missing);
+    };
+    match owner_of(word) {
+        None => Err(Kind::Word),
+        Some(owner) => Ok(owner),
     }
 }
 
