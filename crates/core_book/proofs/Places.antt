@@ -28,11 +28,13 @@ pushed : (os : List (Option ℕ)) (o : Option ℕ) (c k : ℕ) → Is (os ++ o �
 pushed os o c k h = elim (cases_order k (length os)) [
   | inl same ↦ inr (same, sym (get_or_push os o None k (sym same)) ∙ h)
   | inr apart ↦ elim apart [
-      | inl below ↦ inl (sym (get_or_append_left os (o ∷ []) None k below) ∙ h)
-      | inr above ↦
+    | inl below ↦ inl (sym (get_or_append_left os (o ∷ []) None k below) ∙ h)
+    | inr above ↦
         let long : length (os ++ o ∷ []) ≡ length os + 1 = length_push os o in
         let past : length (os ++ o ∷ []) ≤ k = omega (arith, long, above) in
-        absurd (none-some c (sym (get_or_past (os ++ o ∷ []) k None past) ∙ h)) ] ]
+        absurd (none-some c (sym (get_or_past (os ++ o ∷ []) k None past) ∙ h))
+  ]
+]
 
 pushed_apart : (os : List (Option ℕ)) (o : Option ℕ) (c k : ℕ) → get_or os k None ≢ Some c → (k ≡ length os → o ≢ Some c) → get_or (os ++ o ∷ []) k None ≢ Some c
 pushed_apart os o c k none new h = ⊎_elim (λ (old : Is os c k). none old) (λ (at : (k ≡ length os) × (o ≡ Some c)). new at.0 at.1) (pushed os o c k h)
@@ -42,7 +44,7 @@ next_kept : (os : List (Option ℕ)) (o : Option ℕ) (c i j : ℕ) → o ≢ So
 next_kept os o c i j other next = record {
   behind = next.behind;
   between = λ k low high. pushed_apart os o c k (next.between k low high) (λ at. other);
-  there = ⊎_elim (λ (none : j ≡ nowhere). inl none) (λ (is : Is os c j). inr (kept os o c j is)) next.there
+  there = ⊎_elim (λ (none : j ≡ nowhere). inl none) (λ (is : Is os c j). inr (kept os o c j is)) next.there;
 }
 
 ends_kept : (os : List (Option ℕ)) (o : Option ℕ) (c first last : ℕ) → o ≢ Some c → AreEnds os c first last → AreEnds (os ++ o ∷ []) c first last
@@ -50,7 +52,7 @@ ends_kept os o c first last other ends = record {
   first = kept os o c first ends.first;
   before = λ k low. pushed_apart os o c k (ends.before k low) (λ at. other);
   last = kept os o c last ends.last;
-  behind = λ k high. pushed_apart os o c k (ends.behind k high) (λ at. other)
+  behind = λ k high. pushed_apart os o c k (ends.behind k high) (λ at. other);
 }
 
 -- a link within the command that the new place is of
@@ -60,7 +62,7 @@ next_within os o c i j is next =
     record {
       behind = next.behind;
       between = λ k low high. pushed_apart os o c k (next.between k low high) (λ at. absurd (omega (arith, at, high, within)));
-      there = inr (kept os o c j is)
+      there = inr (kept os o c j is);
     }
 
 -- the new place leads nowhere
@@ -71,7 +73,7 @@ next_new os o c fits = record {
       (λ (old : Is os c k). let within : k < length os = is_within os c k old in absurd (omega (arith, within, low)))
       (λ (at : (k ≡ length os) × (o ≡ Some c)). let same : k ≡ length os = at.0 in absurd (omega (arith, same, low)))
       (pushed os o c k h);
-  there = inl refl
+  there = inl refl;
 }
 
 -- what was linked reads as before, below the new place
@@ -93,7 +95,7 @@ linked_none os next ends linked =
           (λ (at : (i ≡ length os) × (None ≡ Some c)). absurd (none-some c at.1))
           (pushed os None c i h);
       absent = λ c k none. pushed_apart os None c k (linked.absent c k none) (λ at. none-some c);
-      ends = λ c e is. ends_kept os None c e.first e.last (none-some c) (linked.ends c e is)
+      ends = λ c e is. ends_kept os None c e.first e.last (none-some c) (linked.ends c e is);
     }
 
 -- the new place's own link
@@ -149,7 +151,7 @@ ends_first os c none = record {
   first = added os (Some c) c refl;
   before = λ k low. pushed_apart os (Some c) c k (none k) (λ at. absurd (omega (arith, at, low)));
   last = added os (Some c) c refl;
-  behind = λ k high. none_behind os c k high
+  behind = λ k high. none_behind os c k high;
 }
 
 ends_more : (os : List (Option ℕ)) (c first last : ℕ) → AreEnds os c first last → AreEnds (os ++ Some c ∷ []) c first (length os)
@@ -159,7 +161,7 @@ ends_more os c first last ends =
       first = kept os (Some c) c first ends.first;
       before = λ k low. pushed_apart os (Some c) c k (ends.before k low) (λ at. absurd (omega (arith, at, low, within)));
       last = added os (Some c) c refl;
-      behind = λ k high. none_behind os c k high
+      behind = λ k high. none_behind os c k high;
     }
 
 -- the first place of a command
@@ -170,8 +172,8 @@ linked_first os next ends ends' c v linked fits new first last put =
     let long : length (os ++ Some c ∷ []) ≡ length os + 1 = length_push os (Some c) in
     let count : length next ≡ length os = linked.count in
     let own : AreEnds (os ++ Some c ∷ []) c v.first v.last =
-        subst (λ (k : ℕ). AreEnds (os ++ Some c ∷ []) c k v.last) (sym first)
-        (subst (λ (k : ℕ). AreEnds (os ++ Some c ∷ []) c (length os) k) (sym last) (ends_first os c (λ k. linked.absent c k new))) in
+    subst (λ (k : ℕ). AreEnds (os ++ Some c ∷ []) c k v.last) (sym first)
+    (subst (λ (k : ℕ). AreEnds (os ++ Some c ∷ []) c (length os) k) (sym last) (ends_first os c (λ k. linked.absent c k new))) in
     record {
       count = omega (arith, longer, long, count);
       next = λ d i h. ⊎_elim
@@ -181,7 +183,7 @@ linked_first os next ends ends' c v linked fits new first last put =
           (λ (at : (i ≡ length os) × (Some c ≡ Some d)). link_new os next (Some c) d i count fits at.0)
           (pushed os (Some c) d i h);
       absent = absent_put os ends ends' c v linked.absent put;
-      ends = ends_put os ends ends' c v linked.ends put own
+      ends = ends_put os ends ends' c v linked.ends put own;
     }
 
 -- the old last place leads to the new one
@@ -191,7 +193,7 @@ link_last os c d first last ends same =
     record {
       behind = is_within os c last ends.last;
       between = λ k low high. pushed_apart os (Some c) c k (ends.behind k low) (λ at. absurd (omega (arith, at, high)));
-      there = inr (added os (Some c) c refl)
+      there = inr (added os (Some c) c refl);
     }
 
 -- any other place of c leads where it led
@@ -201,7 +203,8 @@ link_inner os c first last i j ends fits is apart next = ⊎_elim
     let within : last < length os = is_within os c last ends.last in
     let low : i < last = elim (cases_order i last) [
       | inl same ↦ absurd (apart same)
-      | inr sides ↦ elim sides [ | inl below ↦ below | inr above ↦ absurd (ends.behind i above is) ] ] in
+      | inr sides ↦ elim sides [ inl below ↦ below | inr above ↦ absurd (ends.behind i above is) ]
+    ] in
     let high : last < j = omega (arith, none, within, fits) in
     absurd (next.between last low high ends.last))
     (λ (there : Is os c j). next_within os (Some c) c i j there next)
@@ -227,30 +230,30 @@ linked_more os next ends ends' c e v linked fits known first last put =
     let within : e.last < length os = is_within os c e.last was.last in
     let inside : e.last < length (next ++ nowhere ∷ []) = omega (arith, longer, count, within) in
     let own : AreEnds (os ++ Some c ∷ []) c v.first v.last =
-        subst (λ (k : ℕ). AreEnds (os ++ Some c ∷ []) c k v.last) (sym first)
-        (subst (λ (k : ℕ). AreEnds (os ++ Some c ∷ []) c e.first k) (sym last) (ends_more os c e.first e.last was)) in
+    subst (λ (k : ℕ). AreEnds (os ++ Some c ∷ []) c k v.last) (sym first)
+    (subst (λ (k : ℕ). AreEnds (os ++ Some c ∷ []) c e.first k) (sym last) (ends_more os c e.first e.last was)) in
     let other_link : (d i : ℕ) → i ≢ e.last → IsNext (os ++ Some c ∷ []) d i (get_or (next ++ nowhere ∷ []) i 0)
-          → IsNext (os ++ Some c ∷ []) d i (get_or (set (next ++ nowhere ∷ []) e.last (length os)) i 0) =
-        λ d i apart is. subst (λ (j : ℕ). IsNext (os ++ Some c ∷ []) d i j) (sym (get_or-set_other (next ++ nowhere ∷ []) e.last i (length os) 0 apart)) is in
+    → IsNext (os ++ Some c ∷ []) d i (get_or (set (next ++ nowhere ∷ []) e.last (length os)) i 0) =
+    λ d i apart is. subst (λ (j : ℕ). IsNext (os ++ Some c ∷ []) d i j) (sym (get_or-set_other (next ++ nowhere ∷ []) e.last i (length os) 0 apart)) is in
     record {
       count = omega (arith, same, longer, long, count);
       next = λ d i h. ⊎_elim
           (λ (old : Is os d i). ⊎_elim
-              (λ (at : i ≡ e.last).
-              let one : c ≡ d = same_Some c d (sym was.last ∙ (ap (λ (k : ℕ). get_or os k None) (sym at) ∙ old)) in
-              subst (λ (k : ℕ). IsNext (os ++ Some c ∷ []) d k (get_or (set (next ++ nowhere ∷ []) e.last (length os)) k 0)) (sym at)
-              (subst (λ (j : ℕ). IsNext (os ++ Some c ∷ []) d e.last j) (sym (get_or-set_same (next ++ nowhere ∷ []) e.last (length os) 0 inside))
-              (link_last os c d e.first e.last was one)))
-              (λ (apart : i ≢ e.last).
-              other_link d i apart (link_old os next (Some c) d i count old (link_apart os c d e.first e.last i (get_or next i 0) was fits old apart (linked.next d i old))))
-              (cases_eq i e.last))
+          (λ (at : i ≡ e.last).
+          let one : c ≡ d = same_Some c d (sym was.last ∙ (ap (λ (k : ℕ). get_or os k None) (sym at) ∙ old)) in
+          subst (λ (k : ℕ). IsNext (os ++ Some c ∷ []) d k (get_or (set (next ++ nowhere ∷ []) e.last (length os)) k 0)) (sym at)
+          (subst (λ (j : ℕ). IsNext (os ++ Some c ∷ []) d e.last j) (sym (get_or-set_same (next ++ nowhere ∷ []) e.last (length os) 0 inside))
+          (link_last os c d e.first e.last was one)))
+          (λ (apart : i ≢ e.last).
+          other_link d i apart (link_old os next (Some c) d i count old (link_apart os c d e.first e.last i (get_or next i 0) was fits old apart (linked.next d i old))))
+          (cases_eq i e.last))
           (λ (at : (i ≡ length os) × (Some c ≡ Some d)).
           let here : i ≡ length os = at.0 in
           let apart : i ≢ e.last = λ at_last. absurd (omega (arith, here, at_last, within)) in
           other_link d i apart (link_new os next (Some c) d i count fits here))
           (pushed os (Some c) d i h);
       absent = absent_put os ends ends' c v linked.absent put;
-      ends = ends_put os ends ends' c v linked.ends put own
+      ends = ends_put os ends ends' c v linked.ends put own;
     }
 
 -- equal links, and a map that has the same
@@ -259,7 +262,7 @@ linked_same os next next' ends ends' linked same each = record {
   count = ap length same ∙ linked.count;
   next = λ c i h. subst (λ (xs : List ℕ). IsNext os c i (get_or xs i 0)) (sym same) (linked.next c i h);
   absent = λ c k none. linked.absent c k (sym (each c) ∙ none);
-  ends = λ c e is. linked.ends c e (sym (each c) ∙ is)
+  ends = λ c e is. linked.ends c e (sym (each c) ∙ is);
 }
 
 -- where a command's places begin

@@ -1,9 +1,6 @@
-use Rattle.std.proofs.Common.{rules, arith, ◌≡◌, ◌∙◌, ◌<◌, ◌+◌, subst, sym, ap, ℕ, List, ◌∷◌, ◌++◌, [], length, nat_eq, Some, None, refl}
-use Rattle.std.specs.Prelude.{Option}
+use Rattle.std.proofs.Common.{rules, arith, ◌≡◌, ◌∙◌, ◌<◌, sym, length, nat_eq, Some, None, refl}
 use Rattle.std.specs.HashMap.{get}
-use Rattle.std.specs.Option.{option_copied}
-use Rattle.core_book.specs.declared.links.Ends.{Ends}
-use Rattle.core_book.specs.Places.{AreLinked, nowhere}
+use Rattle.core_book.specs.Places.{nowhere}
 use Rattle.core_book.proofs.Places.{linked_none, linked_first, linked_more, last_within}
 use Rattle.core_book.proofs.links.Links.push.Goals as goal
 
@@ -15,15 +12,15 @@ returns-in_default-clause-links c os linked =
 pub index_mut-requires : goal.index_mut-requires
 index_mut-requires c =
     let known : get nat_eq c.args.self.now.ends c.in-Some.c ≡ Some c.in-Some-copied.ends =
-        sym c.get.ensures.value ∙ (sym c.copied.ensures ∙ c.in-Some-copied.is) in
+    sym c.get.ensures.value ∙ (sym c.copied.ensures ∙ c.in-Some-copied.is) in
     let within : c.in-Some-copied.ends.last < length c.args.self.now.next.items =
-        last_within c.requires.linked.0 c.args.self.now.next.items (get nat_eq c.args.self.now.ends) c.in-Some.c c.in-Some-copied.ends c.requires.linked.1 known in
+    last_within c.requires.linked.0 c.args.self.now.next.items (get nat_eq c.args.self.now.ends) c.in-Some.c c.in-Some-copied.ends c.requires.linked.1 known in
     omega (arith, within, c.push_reserved.ensures.len, c.args.self.now.next.ok.0)
 
 pub returns-in-Some-copied-clause-links : goal.returns-in-Some-copied-clause-links
 returns-in-Some-copied-clause-links c os linked =
     let known : get nat_eq c.args.self.now.ends c.in-Some.c ≡ Some c.in-Some-copied.ends =
-        sym c.get.ensures.value ∙ (sym c.copied.ensures ∙ c.in-Some-copied.is) in
+    sym c.get.ensures.value ∙ (sym c.copied.ensures ∙ c.in-Some-copied.is) in
     let owned : c.args.whose ≡ Some c.in-Some.c = c.in-Some.is in
     let count : length c.args.self.now.next.items ≡ length os = linked.count in
     let place : c.len-place.result ≡ length os = omega (arith, c.len-place.ensures, count, c.args.self.now.next.ok.0) in
@@ -35,7 +32,7 @@ returns-in-Some-copied-clause-links c os linked =
 pub returns-in-None-clause-links : goal.returns-in-None-clause-links
 returns-in-None-clause-links c os linked =
     let known : get nat_eq c.args.self.now.ends c.in-Some.c ≡ None =
-        sym c.get.ensures.value ∙ (sym c.copied.ensures ∙ c.in-None.is) in
+    sym c.get.ensures.value ∙ (sym c.copied.ensures ∙ c.in-None.is) in
     let owned : c.args.whose ≡ Some c.in-Some.c = c.in-Some.is in
     let count : length c.args.self.now.next.items ≡ length os = linked.count in
     let place : c.len-place.result ≡ length os = omega (arith, c.len-place.ensures, count, c.args.self.now.next.ok.0) in

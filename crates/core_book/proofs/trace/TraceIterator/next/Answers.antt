@@ -1,4 +1,4 @@
-use Rattle.std.proofs.Common.{rules, arith, ◌≡◌, ◌<◌, ◌∙◌, [], get_or, length, refl, slice_get, Some, None}
+use Rattle.std.proofs.Common.{rules, arith, ◌≡◌, ◌<◌, [], get_or, length, refl, slice_get, Some, None}
 use Rattle.std.proofs.lemmas.Option.{slice_get_read}
 use Rattle.core_book.specs.Places.{nowhere}
 use Rattle.core_book.specs.Whose.{all_whose}
