@@ -2,26 +2,35 @@ ghost use Rattle.std.specs.Prelude.{◌≡◌, ◌+◌, ◌<◌, ◌≤◌, [], 
 ghost use Rattle.trace_model.specs.Commands.{trace};
 
 use crate::Trace;
+use crate::links::Links;
+use crate::whose::{note, whose};
 use mid_base::{CmdId, Entry, NoMemory};
 use std::alloc::Global;
+use std::collections::HashMap;
 use std::marker::Model;
 
 /// A journal. Contracts see its entries, the oldest first, and for how many more there is room.
 #[derive(Drop)]
 pub struct CoreBook {
     items: Vec<Entry>,
+    links: Links,
+    sent: HashMap<u64, u32>,
     room: usize,
 }
 
 impl Model for CoreBook {
-    ghost use Rattle.std.specs.Prelude.{◌+◌, ◌≤◌, vec_len, vec_capacity};
+    ghost use Rattle.std.specs.Prelude.{◌+◌, ◌≤◌, [], reverse, vec_len, vec_capacity};
+    ghost use Rattle.std.specs.HashMap.{spare as map_spare};
     ghost use Rattle.core_book.specs.Book.{Book};
+    ghost use Rattle.core_book.specs.Whose.{all_whose, KnowsSent};
+    ghost use Rattle.core_book.specs.Places.{IsLinked, HasRoom};
 
     ghost Value = { Book };
 
     ghost view = { λ b. record { entries = b.items.items; spare = b.room } };
 
-    ghost invariant = { λ b. vec_len b.items + b.room ≤ vec_capacity b.items };
+    ghost invariant = { λ b. (vec_len b.items + b.room ≤ vec_capacity b.items) × HasRoom b.links b.room × (b.room ≤ map_spare b.sent)
+        × IsLinked (all_whose [] b.items.items) b.links × KnowsSent (reverse b.items.items) b.sent };
 }
 
 impl CoreBook {
@@ -30,13 +39,15 @@ impl CoreBook {
         ensures empty { IfOk result (λ b. b.entries ≡ []) }
         ensures spare { IfOk result (λ b. reserve ≤ b.spare) }
     {
-        match Vec::with_capacity(alloc, reserve) {
-            Ok(items) => Ok(CoreBook {
-                items,
-                room: reserve,
-            }),
-            Err(_) => Err(NoMemory),
-        }
+        let items = Vec::with_capacity(alloc, reserve).map_err(|_| NoMemory)?;
+        let links = Links::new(alloc, reserve)?;
+        let sent = HashMap::with_capacity(alloc, reserve).map_err(|_| NoMemory)?;
+        Ok(CoreBook {
+            items,
+            links,
+            sent,
+            room: reserve,
+        })
     }
 
     /// Makes room for `k` more entries. Where there is that room already, it takes no memory.
@@ -49,9 +60,9 @@ impl CoreBook {
         if k <= self.room {
             return Ok(());
         }
-        if self.items.reserve(k).is_err() {
-            return Err(NoMemory);
-        }
+        self.items.reserve(k).map_err(|_| NoMemory)?;
+        self.links.reserve(k)?;
+        self.sent.reserve(k).map_err(|_| NoMemory)?;
         self.room = k;
         Ok(())
     }
@@ -62,7 +73,9 @@ impl CoreBook {
         ensures entries { self.new.entries ≡ self.old.entries ++ e ∷ [] }
         ensures spare { self.new.spare + 1 ≡ self.old.spare }
     {
-        let _ = self.items.push(e);
+        self.links.push(whose(&self.sent, &e));
+        note(&mut self.sent, &e);
+        self.items.push_reserved(e);
         self.room -= 1;
     }
 
@@ -70,7 +83,7 @@ impl CoreBook {
     pub fn of(&self, c: CmdId) -> Trace<'_>
         ensures { result ≡ reverse (trace c.0 (reverse self.now.entries)) }
     {
-        Trace::new(c, &self.items)
+        Trace::new(c, &self.items, self.links.next(), self.links.first(c.0))
     }
 
     /// How many entries there are.
