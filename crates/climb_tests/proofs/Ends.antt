@@ -1,31 +1,20 @@
 -- A climb comes to its end: each act passes one that is ahead, and what is left are the commands that none has cleared.
-use Rattle.std.proofs.Common.{◌≡◌, ◌≤◌, ◌<◌, ℕ, suc, zero, ◌+◌, ◌*◌, ◌==◌, Bool, true, false, cond, not, ◌&&◌, ◌||◌, List, [], ◌∷◌, ◌++◌, length, map, filter, find, refl, sym, ap, ◌∙◌, subst, ltb, ⊎_elim, Option, None, Some, arith}
+use Rattle.std.proofs.Common.{◌≡◌, ◌≤◌, ◌<◌, ℕ, suc, zero, ◌+◌, ◌*◌, Bool, true, false, cond, not, ◌&&◌, ◌||◌, List, [], ◌∷◌, ◌++◌, length, map, filter, find, refl, sym, ap, ◌∙◌, ⊎_elim, Option, None, Some, arith}
 use Rattle.std.specs.List.{list_any}
 use Rattle.std.proofs.lemmas.Bool.{cases_Bool}
 use Rattle.std.proofs.lemmas.List.{length-append, length-map}
 use Rattle.std.proofs.lemmas.Option.{none-some}
 use Rattle.mid_base.specs.declared.names.DevAddr.{DevAddr}
-use Rattle.mid_base.specs.declared.answers.Answer.{Answer}
 use Rattle.mid_base.specs.declared.answers.Scope.{Scope}
 use Rattle.mid_base.specs.declared.answers.Scope.TheVariants.{Cmd, Dev, Target, Bus, Host}
 use Rattle.mid_base.specs.declared.entries.Entry.{Entry}
-use Rattle.mid_base.specs.Address.{same_dev}
 use Rattle.disposition.specs.declared.todo.Todo.{Todo}
-use Rattle.disposition.specs.Ladder.{Pair, pairs, devs, with_dev, address, same_pair, beyond_pair}
-use Rattle.escalation.specs.Climbing.{Climb, clears, is_left, sensed, sensed_by, as_told, gone_on, next_pair}
+use Rattle.disposition.specs.Ladder.{Pair, pairs, devs, same_pair, beyond_pair}
+use Rattle.escalation.specs.Climbing.{clears, is_left, as_told}
+use Rattle.escalation.proofs.Tested.{devs_length}
+use Rattle.escalation.proofs.Leaving.{told_both}
 
 -- how many acts are ahead
-
-with_length : (d : DevAddr) (ds : List DevAddr) → length (with_dev d ds) ≤ suc (length ds)
-with_length d [] = omega arith
-with_length d (e ∷ ds) = ⊎_elim
-    (λ same. rw same (omega arith))
-    (λ other. ⊎_elim (λ less. rw other (rw less (omega arith))) (λ more. rw other (rw more (omega (arith, with_length d ds)))) (cases_Bool (ltb (address d) (address e))))
-    (cases_Bool (same_dev d e))
-
-devs_length : (xs : List Todo) → length (devs xs) ≤ length xs
-devs_length [] = omega arith
-devs_length (x ∷ xs) = omega (arith, with_length x.dev (devs xs), devs_length xs)
 
 pub pairs_length : (xs : List Todo) → length (pairs xs) ≤ 7 * length xs + 1
 pairs_length xs =
@@ -78,14 +67,6 @@ passes_one f p (q ∷ qs) e = ⊎_elim
     more m n h = omega (arith, h)
 
 -- what is left after acts
-
-sensed_both : (n : ℕ) (es fs : List Entry) (a : Option Answer) → sensed n (es ++ fs) a ≡ sensed n fs (sensed n es a)
-sensed_both n [] fs a = refl
-sensed_both n (e ∷ es) fs a = sensed_both n es fs (sensed_by n e a)
-
-told_both : (es fs : List Entry) (x : Todo) → as_told fs (as_told es x) ≡ as_told (es ++ fs) x
-told_both es fs x =
-    ap (λ (a : Option Answer). (let y : Todo = record { cmd = x.cmd; n = x.n; dev = x.dev; cancelled = x.cancelled; answer = a; cx = x.cx } in y)) (sym (sensed_both x.n.0 es fs x.answer))
 
 left_both : (es fs : List Entry) (x : Todo) → is_left (es ++ fs) x ≡ (is_left es x && is_left fs x)
 left_both [] fs x = refl
