@@ -12,7 +12,7 @@ use Rattle.disposition.specs.declared.todo.Todo.{Todo}
 use Rattle.disposition.specs.Ladder.{Pair, pairs, devs, same_pair, beyond_pair}
 use Rattle.escalation.specs.Climbing.{clears, is_left, as_told}
 use Rattle.escalation.proofs.Tested.{devs_length}
-use Rattle.escalation.proofs.Leaving.{told_both}
+use Rattle.escalation.proofs.Cleared.{told_both}
 
 -- how many acts are ahead
 

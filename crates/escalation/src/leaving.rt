@@ -1,6 +1,7 @@
-ghost use Rattle.std.specs.Prelude.{◌≡◌, ◌≤◌, ◌<◌, ℕ, ◌+◌, ◌||◌, ◌∷◌, [], map, not, length, vec_len, vec_capacity};
+ghost use Rattle.std.specs.Prelude.{◌≡◌, ◌≤◌, ◌<◌, ℕ, ◌+◌, ◌||◌, ◌∷◌, [], map, not, false, length, Option, vec_len, vec_capacity};
 ghost use Rattle.std.specs.List.{list_any};
 ghost use Rattle.std.specs.List.Sorted.{IsNonDecreasing};
+ghost use Rattle.mid_base.specs.declared.answers.Answer.{Answer as AnswerSeen};
 ghost use Rattle.escalation.specs.Climbing.{as_told as as_told_seen, sensed_by as sensed_by_seen, clears};
 ghost use Rattle.escalation.specs.Acts.{AreCleared, is_id};
 
@@ -49,12 +50,21 @@ pub(crate) fn take_sense(left: &mut Vec<Todo>, entries: &[Entry])
     }
 }
 
-// Only an entry that tells fetched sense changes an answer.
 fn take_told(left: &mut Vec<Todo>, entry: &Entry)
     ensures { left.new.items ≡ map (as_told_seen (entry.now ∷ [])) left.old.items }
 {
-    if matches!(entry, Entry::Sensed(_, _, _)) {
+    if tells_sense(entry) {
         give_sense(left, entry);
+    }
+}
+
+// Where it is false, the entry changes no answer.
+fn tells_sense(entry: &Entry) -> bool
+    ensures { result ≡ false → (n : ℕ) (a : Option AnswerSeen) → sensed_by_seen n entry.now a ≡ a }
+{
+    match entry {
+        Entry::Sensed(_, _, _) => true,
+        _ => false,
     }
 }
 

@@ -6,7 +6,7 @@ use Rattle.disposition.specs.Ladder.{Pair, beyond_pair}
 use Rattle.escalation.specs.Rungs.{pair_at}
 use Rattle.escalation.specs.Climbing.{Climb, is_left, as_told}
 use Rattle.escalation.specs.Acts.{IsClimbing, is_id}
-use Rattle.escalation.proofs.Leaving.{same_left}
+use Rattle.escalation.proofs.Cleared.{same_left}
 use Rattle.escalation.proofs.Moves.{moved, room_ahead, went_on}
 use Rattle.escalation.proofs.ladder.Ladder.go_on.Goals as goal
 

@@ -1,12 +1,11 @@
 -- What entries leave of a list, taken one by one, and the ids that they clear.
-use Rattle.std.proofs.Common.{◌≡◌, ◌≤◌, ◌<◌, ℕ, suc, zero, ◌+◌, ◌==◌, Bool, true, false, cond, not, ◌||◌, List, [], ◌∷◌, ◌++◌, length, map, filter, take, get_or, refl, sym, ap, ◌∙◌, subst, ⊎_elim, Option, Ok, Err, eq-eqb, arith}
+use Rattle.std.proofs.Common.{◌≡◌, ◌≤◌, ◌<◌, ℕ, suc, zero, ◌+◌, ◌==◌, Bool, true, false, cond, not, ◌||◌, List, [], ◌∷◌, ◌++◌, length, map, filter, take, get_or, refl, sym, ap, ◌∙◌, subst, ⊎_elim, Option, Result, Ok, Err, eq-eqb, arith}
 use Rattle.std.specs.List.{list_any}
 use Rattle.std.specs.List.Sorted.{IsPermutation, IsNonDecreasing, IsBinarySearchResult}
 use Rattle.std.specs.Ordering.{nat_cmp}
 use Rattle.std.proofs.Math.Bool.{or-false}
-use Rattle.std.proofs.lemmas.Bool.{cases_Bool, eqb-true}
+use Rattle.std.proofs.lemmas.Bool.{cases_Bool, cases_order, eqb-true}
 use Rattle.std.proofs.lemmas.List.{take_more}
-use Rattle.core.proofs.str.Laws.{order}
 use Rattle.std.proofs.lemmas.List.Folds.{list_any_at, list_any_more, list_any-append}
 use Rattle.std.proofs.lemmas.List.Sorted.{searched, list_any-IsPermutation}
 use Rattle.mid_base.specs.declared.answers.Answer.{Answer}
@@ -35,12 +34,18 @@ pub told_none : (xs : List Todo) → map (as_told []) xs ≡ xs
 told_none [] = refl
 told_none (x ∷ xs) = ap (λ (ys : List Todo). x ∷ ys) (told_none xs)
 
+pub no_sense : (e : Entry) → ((n : ℕ) (a : Option Answer) → sensed_by n e a ≡ a) → (xs : List Todo) → xs ≡ map (as_told (e ∷ [])) xs
+no_sense e h [] = refl
+no_sense e h (x ∷ xs) =
+    let with : Option Answer → Todo = λ a. record { cmd = x.cmd; n = x.n; dev = x.dev; cancelled = x.cancelled; answer = a; cx = x.cx } in
+    ap (λ (y : Todo). y ∷ xs) (sym (ap with (h x.n.0 x.answer))) ∙ ap (λ (ys : List Todo). as_told (e ∷ []) x ∷ ys) (no_sense e h xs)
+
 -- a loop's step
-pub told_more : (es : List Entry) (i : ℕ) (d : Entry) (xs ys zs : List Todo) → i < length es → ys ≡ map (as_told (take i es)) xs → zs ≡ map (as_told (get_or es i d ∷ [])) ys
+pub told_more : (es : List Entry) (i : ℕ) (e : Entry) (xs ys zs : List Todo) → i < length es → e ≡ get_or es i e → ys ≡ map (as_told (take i es)) xs → zs ≡ map (as_told (e ∷ [])) ys
     → zs ≡ map (as_told (take (i + 1) es)) xs
-told_more es i d xs ys zs lt y z =
-    let e = get_or es i d in
-    z ∙ (ap (map (as_told (e ∷ []))) y ∙ (map_told (take i es) (e ∷ []) xs ∙ ap (λ (fs : List Entry). map (as_told fs) xs) (sym (take_more es i d lt))))
+told_more es i e xs ys zs lt is y z =
+    let whole : take i es ++ e ∷ [] ≡ take (i + 1) es = ap (λ (x : Entry). take i es ++ x ∷ []) is ∙ sym (take_more es i e lt) in
+    z ∙ (ap (map (as_told (e ∷ []))) y ∙ (map_told (take i es) (e ∷ []) xs ∙ ap (λ (fs : List Entry). map (as_told fs) xs) whole))
 
 -- the ids that are cleared
 
@@ -64,15 +69,18 @@ none_is c (x ∷ xs) h = ⊎_elim
     (λ no. rw no (none_is c xs (λ k lt. h (suc k) (omega (arith, lt)))))
     (cases_Bool (x == c))
 
-pub found_is : (xs : List ℕ) (c i : ℕ) → IsBinarySearchResult (λ y. nat_cmp y c) xs (Ok i) → IsNonDecreasing xs → list_any (is_id c) xs ≡ true
-found_is xs c i h up =
-    let at = searched xs c (Ok i) h (λ j k le lt. up j k 0 le lt) in
+pub found_is : (xs : List ℕ) (c i : ℕ) (r : Result ℕ ℕ) → r ≡ Ok i → IsBinarySearchResult (λ y. nat_cmp y c) xs r → IsNonDecreasing xs → list_any (is_id c) xs ≡ true
+found_is xs c i r r_is h up =
+    let at = searched xs c (Ok i) (subst (IsBinarySearchResult (λ y. nat_cmp y c) xs) r_is h) (λ j k le lt. up j k 0 le lt) in
     list_any_at (is_id c) xs i 0 at.0 (eq-eqb (get_or xs i 0) c at.1)
 
-pub absent_is : (xs : List ℕ) (c i : ℕ) → IsBinarySearchResult (λ y. nat_cmp y c) xs (Err i) → IsNonDecreasing xs → list_any (is_id c) xs ≡ false
-absent_is xs c i h up =
-    let at = searched xs c (Err i) h (λ j k le lt. up j k 0 le lt) in
-    none_is c xs (λ k lt is. ⊎_elim (λ low. absurd (omega (arith, at.1 k low, is))) (λ high. absurd (omega (arith, at.2 k high lt, is))) (order k i))
+pub absent_is : (xs : List ℕ) (c i : ℕ) (r : Result ℕ ℕ) → r ≡ Err i → IsBinarySearchResult (λ y. nat_cmp y c) xs r → IsNonDecreasing xs → list_any (is_id c) xs ≡ false
+absent_is xs c i r r_is h up =
+    let at = searched xs c (Err i) (subst (IsBinarySearchResult (λ y. nat_cmp y c) xs) r_is h) (λ j k le lt. up j k 0 le lt) in
+    none_is c xs (λ k lt is. ⊎_elim
+    (λ same. absurd (omega (arith, at.2 k (omega (arith, same)) lt, is)))
+    (λ other. ⊎_elim (λ low. absurd (omega (arith, at.1 k low, is))) (λ high. absurd (omega (arith, at.2 k (omega (arith, high)) lt, is))) other)
+    (cases_order k i))
 
 pub same_left : (entries : List Entry) (ids : List ℕ) → AreCleared entries ids → (xs : List Todo) → filter (λ x. not (list_any (is_id x.cmd.0) ids)) xs ≡ filter (is_left entries) xs
 same_left entries ids h [] = refl
