@@ -1,5 +1,5 @@
 use crate::rogue::Rogue;
-use crate::simulated::{all_callbacks, cancelled, told};
+use crate::commands::{all_callbacks, cancelled, told};
 use bitflags::Flags;
 use escalation::Todo;
 use mid_base::{Answer, DID_OK, DevAddr, GOOD, Handlers, ProbeSay, SenseBytes};

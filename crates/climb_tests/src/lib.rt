@@ -8,6 +8,8 @@
 
 mod climbing;
 #[cfg(test)]
+mod commands;
+#[cfg(test)]
 mod large_tests;
 #[cfg(test)]
 mod reset_tests;

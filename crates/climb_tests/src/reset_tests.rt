@@ -1,6 +1,5 @@
-use crate::simulated::{
-    FIRST, OTHER, SECOND, adapter, all_callbacks, cancelled, planned, prints,
-};
+use crate::commands::{FIRST, OTHER, SECOND, all_callbacks, cancelled};
+use crate::simulated::{adapter, planned, prints};
 use mid_base::{Fault, Handlers};
 use std::test::Fail;
 

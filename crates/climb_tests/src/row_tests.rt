@@ -1,6 +1,5 @@
-use crate::simulated::{
-    FIRST, OTHER, adapter, all_callbacks, answered, cancelled, is_text, planned, prints, told,
-};
+use crate::commands::{FIRST, OTHER, all_callbacks, cancelled, told};
+use crate::simulated::{adapter, answered, is_text, planned, prints};
 use bitflags::Flags;
 use mid_base::{Fault, Handlers, SenseBytes};
 use std::test::Fail;

@@ -3,38 +3,19 @@ ghost use Rattle.std.specs.List.{list_all};
 ghost use Rattle.mid_base.specs.Limits.{is_planned};
 ghost use Rattle.climb_tests.specs.Hosts.{units as units_seen, unit_at, once};
 
-use crate::recovered;
+use crate::commands::{FIRST, OTHER, SECOND, cancelled, told};
 use bitflags::Flags;
 use debug_adapter::DebugAdapter;
-use escalation::{Cx, Todo};
+use escalation::Todo;
 use host_template::HostTemplate;
 use mid_base::{
-    Attempt, CdbBytes, CmdId, DevAddr, DeviceState, Entry, Fault, Handlers, HostNo, HostSpec,
-    LunSpec, NoMemory, PlanEntry, Rows, Tick,
+    Attempt, CdbBytes, DevAddr, DeviceState, Entry, Fault, Handlers, HostNo, HostSpec, LunSpec,
+    NoMemory, PlanEntry, Rows, Tick,
 };
 use mid_io::MemSink;
 use report_text::write_host;
 use std::alloc::Global;
 use std::test::Fail;
-
-// The addresses of three units: two of a target, and one on another channel.
-pub(crate) const FIRST: DevAddr = DevAddr {
-    channel: 0,
-    target: 0,
-    lun: 0,
-};
-
-pub(crate) const SECOND: DevAddr = DevAddr {
-    channel: 0,
-    target: 0,
-    lun: 1,
-};
-
-pub(crate) const OTHER: DevAddr = DevAddr {
-    channel: 1,
-    target: 0,
-    lun: 0,
-};
 
 fn unit(dev: DevAddr, stopped: bool) -> LunSpec
     ensures { result ≡ unit_at dev stopped }
@@ -102,23 +83,6 @@ pub(crate) fn adapter(
     DebugAdapter::new(alloc, &spec)
 }
 
-// A command that was cancelled.
-pub(crate) fn cancelled(id: u32, dev: DevAddr) -> Todo {
-    Todo {
-        cmd: CmdId(id),
-        n: Attempt(1),
-        dev,
-        cancelled: true,
-        answer: None,
-        cx: Cx {
-            retries: 0,
-            allowed: 5,
-            failfast: false,
-            online: true,
-        },
-    }
-}
-
 // READ(10) of the first block (SBC-3).
 const READ: [u8; 10] = [0x28, 0, 0, 0, 0, 0, 0, 0, 1, 0];
 
@@ -135,28 +99,6 @@ pub(crate) fn answered(adapter: &mut DebugAdapter, id: u32, dev: DevAddr) -> Res
         answer: Some(answer),
         ..cancelled(id, dev)
     })
-}
-
-pub(crate) fn all_callbacks() -> Handlers {
-    Handlers::from_bits_retain(31)
-}
-
-// What is told of a climb of these commands.
-pub(crate) fn told<A: HostTemplate>(
-    alloc: Global,
-    lower: &mut A,
-    todo: &[Todo],
-    handlers: Handlers,
-    aborts: bool,
-) -> Result<Vec<Entry>, Fail> {
-    let mut into = [0u8; 2056];
-    Ok(recovered(
-        todo.to_vec(alloc)?,
-        handlers,
-        aborts,
-        lower,
-        &mut into,
-    )?)
 }
 
 // Whether this text is printed of a climb of these commands.
