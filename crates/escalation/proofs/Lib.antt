@@ -6,3 +6,4 @@ pub mod Climbs
 pub mod Loops
 pub mod Built
 pub mod Moves
+pub mod Cleared

@@ -1,6 +1,7 @@
 -- What the parts of an act do. No contract of a public call cites these words.
-use Rattle.std.specs.Prelude.{◌≡◌, ℕ, ◌+◌, ◌*◌, ◌≤◌, Bool, true, false, if◌then◌else◌, List, [], ◌∷◌, ◌++◌, length, map, filter, Option, option_map, is_some, vec_len, vec_capacity}
+use Rattle.std.specs.Prelude.{◌≡◌, ℕ, ◌+◌, ◌*◌, ◌≤◌, ◌==◌, Bool, true, false, if◌then◌else◌, List, [], ◌∷◌, ◌++◌, length, map, filter, Option, option_map, is_some, vec_len, vec_capacity}
 use Rattle.std.specs.List.{list_any}
+use Rattle.std.specs.List.Sorted.{IsNonDecreasing}
 use Rattle.mid_base.specs.declared.names.DevAddr.{DevAddr}
 use Rattle.mid_base.specs.declared.answers.Scope.{Scope}
 use Rattle.mid_base.specs.declared.entries.Entry.{Entry}
@@ -26,7 +27,7 @@ use Rattle.eh_probe.specs.Standings.{StandsAfter}
 use Rattle.escalation.specs.declared.testing.Told.{Told}
 use Rattle.escalation.specs.declared.rungs.Rung.{Rung}
 use Rattle.escalation.specs.Rungs.{level_at, scope_at, pair_at}
-use Rattle.escalation.specs.Climbing.{StandsActed}
+use Rattle.escalation.specs.Climbing.{StandsActed, clears}
 use Rattle.step_laws.proofs.Ladders.{lost}
 
 -- these devices are tested, in order, of which these are ready, and these entries tell it
@@ -119,3 +120,11 @@ pub record IsClimbing (left : List Todo) (ahead : List Pair) : Type 0 where
   pub last : Option Pair
   pub above : ahead ≡ beyond last (pairs all)
   pub covers : AreAhead ahead left
+
+abbrev pub is_id : ℕ → ℕ → Bool
+is_id c d = d == c
+
+-- ascending numbers are the ids of the commands that these entries clear
+pub record AreCleared (entries : List Entry) (ids : List ℕ) : Type 0 where
+  pub rise : IsNonDecreasing ids
+  pub are : (c : ℕ) → list_any (is_id c) ids ≡ list_any (clears c) entries

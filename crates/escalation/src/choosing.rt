@@ -1,4 +1,4 @@
-ghost use Rattle.std.specs.Prelude.{◌≡◌, ◌≤◌, ◌+◌, ◌*◌, filter, IfOk, length};
+ghost use Rattle.std.specs.Prelude.{◌≡◌, ◌≤◌, ◌+◌, ◌*◌, [], filter, IfOk, length, vec_capacity};
 ghost use Rattle.disposition.specs.Ladder.{is_in_scope as is_in_scope_seen};
 ghost use Rattle.escalation.specs.Acts.{IsReady};
 
@@ -26,6 +26,17 @@ pub(crate) fn room_for(alloc: Global, todo: &[Todo]) -> Result<Told, NoMemory>
     };
     match Vec::with_capacity(alloc, todo.len()) {
         Ok(ready) => Ok(Told { entries, ready }),
+        Err(_) => Err(NoMemory),
+    }
+}
+
+/// Room for the ids of those that it may clear: as many as it may tell entries.
+pub(crate) fn room_for_ids(alloc: Global, todo: &[Todo]) -> Result<Vec<u32>, NoMemory>
+    ensures none { IfOk result (λ v. v.items ≡ []) }
+    ensures room { IfOk result (λ v. 4 + 3 * length todo.now ≤ vec_capacity v) }
+{
+    match Vec::with_capacity(alloc, 4 + 3 * todo.len()) {
+        Ok(ids) => Ok(ids),
         Err(_) => Err(NoMemory),
     }
 }

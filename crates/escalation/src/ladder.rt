@@ -1,20 +1,20 @@
 ghost use Rattle.std.specs.Prelude.{◌≡◌, ◌≤◌, map, filter, length, option_map, Some, IfOk, OnErr};
-ghost use Rattle.std.specs.List.{list_any};
 ghost use Rattle.host_template.specs.Meaning.{SameNature};
 ghost use Rattle.disposition.specs.Ladder.{is_in_scope, beyond_pair};
 ghost use Rattle.escalation.specs.Rungs.{pair_at};
-ghost use Rattle.escalation.specs.Acts.{IsClimbing};
-ghost use Rattle.escalation.specs.Climbing.{begun, next_pair, gone_on, clears as clears_seen, is_left as is_left_seen, as_told as as_told_seen, sensed as sensed_seen, sensed_by as sensed_by_seen, Climbs, StandsClimbed, HonestClimbed, IsIdle};
+ghost use Rattle.escalation.specs.Acts.{IsClimbing, AreCleared};
+ghost use Rattle.escalation.specs.Climbing.{begun, next_pair, gone_on, is_left as is_left_seen, as_told as as_told_seen, Climbs, StandsClimbed, HonestClimbed, IsIdle};
 
 use crate::Acted;
 use crate::acts::perform;
-use crate::choosing::{chosen_of, room_for};
+use crate::choosing::{chosen_of, room_for, room_for_ids};
+use crate::leaving::{gather_cleared, is_left, take_sense};
 use crate::rungs::{Rung, rungs_of};
 use crate::testing::Chosen;
 use crate::wanting::{first_wanted, passed};
 use disposition::Todo;
 use host_template::HostTemplate;
-use mid_base::{Answer, Attempt, Entry, Handlers, NoMemory, Scope};
+use mid_base::{Entry, Handlers, NoMemory, Scope};
 use std::marker::Model;
 
 /// The climb of recovery over a list of failed commands. Contracts see the commands that are left, the acts that are ahead,
@@ -144,8 +144,10 @@ impl Ladder {
     {
         let chosen = self.chosen(rung.scope())?;
         let mut told = room_for(*chosen.todo.allocator(), &chosen.todo)?;
+        let mut cleared = room_for_ids(*chosen.todo.allocator(), &chosen.todo)?;
         let ok = perform(lower, into, self.handlers(), rung, &chosen, &mut told);
-        self.go_on(&rung, &told.entries);
+        gather_cleared(&mut cleared, &told.entries);
+        self.go_on(&rung, &told.entries, &cleared);
         Ok(Acted::Act {
             level: rung.level(),
             scope: rung.scope(),
@@ -154,79 +156,15 @@ impl Ladder {
         })
     }
 
-    // What an act that these entries tell leaves.
-    fn go_on(&mut self, rung: &Rung, entries: &[Entry])
-        requires { IsClimbing (map (as_told_seen entries.now) (filter (is_left_seen entries.now) self.old.left)) (beyond_pair (pair_at rung.now) self.old.ahead) }
+    // What an act that these entries tell leaves; `cleared` are the ids of the commands that they clear, in ascending order.
+    fn go_on(&mut self, rung: &Rung, entries: &[Entry], cleared: &[u32])
+        requires climbing { IsClimbing (map (as_told_seen entries.now) (filter (is_left_seen entries.now) self.old.left)) (beyond_pair (pair_at rung.now) self.old.ahead) }
+        requires cleared { AreCleared entries.now cleared.now }
         ensures { self.new ≡ gone_on (pair_at rung.now) entries.now self.old }
     {
         let passed = passed(self.ahead(), rung);
         self.at += passed;
-        self.left.retain(|x| is_left(entries, x));
+        self.left.retain(|x| is_left(cleared, x));
         take_sense(&mut self.left, entries);
-    }
-}
-
-// Whether no entry clears a command.
-fn is_left(entries: &[Entry], x: &Todo) -> bool
-    ensures { result ≡ is_left_seen entries.now x.now }
-{
-    !is_cleared(entries, x)
-}
-
-fn is_cleared(entries: &[Entry], x: &Todo) -> bool
-    ensures { result ≡ list_any (clears_seen x.now.cmd.0) entries.now }
-{
-    entries.iter().any(|entry| clears(entry, x))
-}
-
-fn clears(entry: &Entry, x: &Todo) -> bool
-    ensures { result ≡ clears_seen x.now.cmd.0 entry.now }
-{
-    match entry {
-        Entry::Cleared(c, _) => *c == x.cmd,
-        _ => false,
-    }
-}
-
-// The answers of commands get the sense that was fetched for them.
-fn take_sense(left: &mut Vec<Todo>, entries: &[Entry])
-    ensures { left.new.items ≡ map (as_told_seen entries.now) left.old.items }
-{
-    let count = left.as_slice().len();
-    for place in 0..count {
-        let x = left[place];
-        left[place] = as_told(entries, x);
-    }
-}
-
-fn as_told(entries: &[Entry], x: Todo) -> Todo
-    ensures { result ≡ as_told_seen entries.now x }
-{
-    Todo {
-        answer: sensed(entries, x.n, x.answer),
-        ..x
-    }
-}
-
-// An attempt's answer after these entries.
-fn sensed(entries: &[Entry], n: Attempt, before: Option<Answer>) -> Option<Answer>
-    ensures { result ≡ sensed_seen n.0 entries.now before }
-{
-    let mut answer = before;
-    for entry in entries {
-        answer = sensed_by(entry, n, answer);
-    }
-    answer
-}
-
-fn sensed_by(entry: &Entry, n: Attempt, before: Option<Answer>) -> Option<Answer>
-    ensures { result ≡ sensed_by_seen n.0 entry.now before }
-{
-    match (entry, before) {
-        (Entry::Sensed(_, m, sense), Some(answer)) if *m == n => Some(Answer {
-            sense: *sense,
-            ..answer
-        }),
-        _ => before,
     }
 }

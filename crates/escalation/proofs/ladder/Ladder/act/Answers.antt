@@ -1,4 +1,4 @@
-use Rattle.std.proofs.Common.{◌≡◌, ◌∙◌, ℕ, List, filter, refl, sym, ap, subst}
+use Rattle.std.proofs.Common.{◌≡◌, ◌∙◌, ℕ, List, filter, length, refl, sym, ap, subst, arith}
 use Rattle.mid_base.specs.declared.answers.Scope.{Scope}
 use Rattle.mid_base.specs.declared.entries.Entry.{Entry}
 use Rattle.mid_base.specs.declared.host_spec.Handlers.{Handlers}
@@ -19,8 +19,12 @@ perform-ok-requires-clause-begins g c κs within =
     let chosen_is : c.in_ok-chosen.chosen.todo.items ≡ filter (is_in_scope (scope_at rung)) k.left = c.in_ok-chosen.ensures ∙ ap (λ (s : Scope). filter (is_in_scope s) k.left) c.scope.ensures in
     subst (λ (xs : List Todo). BeginsIn (scope_at rung) xs) (sym chosen_is) (found_begins k.aborts k.left k.ahead rung c.requires.next)
 
-pub go_on-requires : goal.go_on-requires
-go_on-requires g c =
+pub gather_cleared-requires-clause-room : goal.gather_cleared-requires-clause-room
+gather_cleared-requires-clause-room g c =
+    omega (arith, c.perform-ok.ensures.act.few, c.in_ok-cleared.ensures.room, ap length c.deref-2.ensures.value, ap length c.deref-3.ensures.value)
+
+pub go_on-requires-clause-climbing : goal.go_on-requires-clause-climbing
+go_on-requires-clause-climbing g c =
     let k = c.args.self.now in
     let rung = c.args.rung in
     let old = g.A.HostTemplate.stands c.args.lower.now in
@@ -30,8 +34,8 @@ go_on-requires g c =
     let act : IsAct c.handlers.result (level_at rung) (scope_at rung) (filter (is_in_scope (scope_at rung)) k.left) c.perform-ok.result old new es =
     subst (λ (xs : List Todo). IsAct c.handlers.result (level_at rung) (scope_at rung) xs c.perform-ok.result old new es) chosen_is c.perform-ok.ensures.act
     in
-    let act' = subst (λ (xs : List Entry). IsAct c.handlers.result (level_at rung) (scope_at rung) (filter (is_in_scope (scope_at rung)) k.left) c.perform-ok.result old new xs) (sym c.deref-2.ensures.value) act in
-    goes_climbing c.handlers.result k.aborts rung k.left k.ahead (beyond_pair (pair_at rung) k.ahead) c.perform-ok.result old new c.deref-2.result.now c.requires.climbing c.requires.next act' refl
+    let act' = subst (λ (xs : List Entry). IsAct c.handlers.result (level_at rung) (scope_at rung) (filter (is_in_scope (scope_at rung)) k.left) c.perform-ok.result old new xs) (sym c.deref-4.ensures.value) act in
+    goes_climbing c.handlers.result k.aborts rung k.left k.ahead (beyond_pair (pair_at rung) k.ahead) c.perform-ok.result old new c.deref-4.result.now c.requires.climbing c.requires.next act' refl
 
 pub returns-clause-act : goal.returns-clause-act
 returns-clause-act g c =
@@ -46,7 +50,7 @@ returns-clause-act g c =
     subst (λ (xs : List Todo). IsAct c.handlers.result (level_at rung) (scope_at rung) xs ok old new es) chosen_is c.perform-ok.ensures.act
     in
     let act' = subst (λ (h : Handlers). IsAct h (level_at rung) (scope_at rung) (filter (is_in_scope (scope_at rung)) k.left) ok old new es) c.handlers.ensures act in
-    let moved = c.go_on.ensures ∙ ap (λ (xs : List Entry). gone_on (pair_at rung) xs k) c.deref-2.ensures.value in
+    let moved = c.go_on.ensures ∙ ap (λ (xs : List Entry). gone_on (pair_at rung) xs k) c.deref-4.ensures.value in
     subst (λ (l : ℕ). IsNextAct k l c.scope-2.result ok es × (c.go_on.new.self ≡ gone_on (l, c.scope-2.result) es k)) (sym c.level.ensures)
     (subst (λ (s : Scope). IsNextAct k (number (level_at rung)) s ok es × (c.go_on.new.self ≡ gone_on (number (level_at rung), s) es k)) (sym c.scope-2.ensures)
     (next_act_is k rung ok old new es c.requires.next act', moved))

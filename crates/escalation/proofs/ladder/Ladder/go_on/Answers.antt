@@ -1,10 +1,12 @@
-use Rattle.std.proofs.Common.{rules, ◌≡◌, ◌≤◌, ◌+◌, ◌∙◌, List, map, filter, drop, length, sym, ap, subst, arith}
+use Rattle.std.proofs.Common.{rules, not, ◌≡◌, ◌≤◌, ◌+◌, ◌∙◌, List, map, filter, drop, length, sym, ap, subst, arith}
+use Rattle.std.specs.List.{list_any}
 use Rattle.std.proofs.lemmas.Fn.{filter_same}
 use Rattle.disposition.specs.declared.todo.Todo.{Todo}
 use Rattle.disposition.specs.Ladder.{Pair, beyond_pair}
 use Rattle.escalation.specs.Rungs.{pair_at}
 use Rattle.escalation.specs.Climbing.{Climb, is_left, as_told}
-use Rattle.escalation.specs.Acts.{IsClimbing}
+use Rattle.escalation.specs.Acts.{IsClimbing, is_id}
+use Rattle.escalation.proofs.Cleared.{same_left}
 use Rattle.escalation.proofs.Moves.{moved, room_ahead, went_on}
 use Rattle.escalation.proofs.ladder.Ladder.go_on.Goals as goal
 
@@ -15,7 +17,9 @@ invariant_of-self c =
     let at = c.self.inside.at in
     let k = c.passed-passed.result in
     let view = ap (λ (x : Climb). x.ahead) c.self.view_is in
-    let kept : c.retain.new.self.items ≡ filter (is_left entries) c.self.inside.left.items = filter_same _ (is_left entries) _ (λ x b f' h. search rules) _ _ c.retain.ensures.filtered in
+    let kept : c.retain.new.self.items ≡ filter (is_left entries) c.self.inside.left.items = 
+    filter_same _ (λ x. not (list_any (is_id x.cmd.0) c.args.cleared.now)) _ (λ x b f' h. search (rules, c.requires.cleared.rise)) _ _ c.retain.ensures.filtered ∙ same_left entries c.args.cleared.now c.requires.cleared c.self.inside.left.items
+    in
     let left : c.take_sense.new.left.items ≡ map (as_told entries) (filter (is_left entries) c.args.self.now.left) =
     c.take_sense.ensures ∙ (ap (map (as_told entries)) kept ∙ ap (λ (x : Climb). map (as_told entries) (filter (is_left entries) x.left)) c.self.view_is)
     in
@@ -23,7 +27,7 @@ invariant_of-self c =
     moved rs at k c.args.self.now.ahead _ c.ahead.result.now view c.ahead.ensures (c.passed-passed.ensures.beyond ∙ ap (beyond_pair (pair_at c.args.rung.now)) c.ahead.ensures)
     in (
       room_ahead rs at k c.args.self.now.ahead c.ahead.result.now c.self.invariant.0 view c.ahead.ensures c.passed-passed.ensures.within,
-      subst (λ (xs : List Todo). IsClimbing xs (map pair_at (drop (at + k) rs))) (sym left) (subst (λ (ps : List Pair). IsClimbing (map (as_told entries) (filter (is_left entries) c.args.self.now.left)) ps) (sym ahead) c.requires),
+      subst (λ (xs : List Todo). IsClimbing xs (map pair_at (drop (at + k) rs))) (sym left) (subst (λ (ps : List Pair). IsClimbing (map (as_told entries) (filter (is_left entries) c.args.self.now.left)) ps) (sym ahead) c.requires.climbing),
     )
 
 pub returns : goal.returns
@@ -33,7 +37,9 @@ returns c =
     let at = c.self.inside.at in
     let k = c.passed-passed.result in
     let view = ap (λ (x : Climb). x.ahead) c.self.view_is in
-    let kept : c.retain.new.self.items ≡ filter (is_left entries) c.self.inside.left.items = filter_same _ (is_left entries) _ (λ x b f' h. search rules) _ _ c.retain.ensures.filtered in
+    let kept : c.retain.new.self.items ≡ filter (is_left entries) c.self.inside.left.items = 
+    filter_same _ (λ x. not (list_any (is_id x.cmd.0) c.args.cleared.now)) _ (λ x b f' h. search (rules, c.requires.cleared.rise)) _ _ c.retain.ensures.filtered ∙ same_left entries c.args.cleared.now c.requires.cleared c.self.inside.left.items
+    in
     let ahead : map pair_at (drop (at + k) rs) ≡ beyond_pair (pair_at c.args.rung.now) c.args.self.now.ahead =
     moved rs at k c.args.self.now.ahead _ c.ahead.result.now view c.ahead.ensures (c.passed-passed.ensures.beyond ∙ ap (beyond_pair (pair_at c.args.rung.now)) c.ahead.ensures)
     in

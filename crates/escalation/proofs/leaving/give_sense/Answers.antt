@@ -2,7 +2,7 @@ use Rattle.std.proofs.Common.{◌≡◌, ◌∙◌, sym, ap, ℕ, ◌+◌, ◌<�
 use Rattle.std.proofs.lemmas.List.{length-map, length-take-le, drop_more, get_or_at, set_at, take_more, map-append, append_assoc, length-set, take_all, drop_all, append-nil}
 use Rattle.disposition.specs.declared.todo.Todo.{Todo}
 use Rattle.escalation.specs.Climbing.{as_told}
-use Rattle.escalation.proofs.ladder.take_sense.Goals as goal
+use Rattle.escalation.proofs.leaving.give_sense.Goals as goal
 
 written : (f : Todo → Todo) (old xs : List Todo) (i : ℕ) (x : Todo) → i < length old → xs ≡ map f (take i old) ++ drop i old → x ≡ get_or xs i x
     → set xs i (f x) ≡ map f (take (i + 1) old) ++ drop (i + 1) old
@@ -20,7 +20,7 @@ written f old xs i x lt is at =
 pub loop-place-preserved : goal.loop-place-preserved
 loop-place-preserved c =
     let old = c.args.left.now.items in
-    let f = as_told c.args.entries.now in
+    let f = as_told (c.args.entry.now ∷ []) in
     let x = c.index-x.result.now in
     let lt : c.loop-place.place < length old = omega (arith, c.loop-place-test.true, ap length c.as_slice-count.ensures.value) in
     let set_is = ap (λ (y : Todo). set c.loop-place.left.items c.loop-place.place y) c.as_told.ensures in
@@ -29,7 +29,7 @@ loop-place-preserved c =
 pub returns : goal.returns
 returns c =
     let old = c.args.left.now.items in
-    let f = as_told c.args.entries.now in
+    let f = as_told (c.args.entry.now ∷ []) in
     let past : length old ≤ c.loop-place.place = omega (arith, c.loop-place-test.false, ap length c.as_slice-count.ensures.value) in
     c.loop-place.invariant.0
     ∙ ap (λ (ys : List Todo). map f ys ++ drop c.loop-place.place old) (take_all c.loop-place.place old past)
