@@ -7,10 +7,10 @@
 
 mod filling;
 mod lower_layer;
-mod rogue;
-mod taking;
 #[cfg(test)]
 mod probe_tests;
+mod rogue;
+mod taking;
 #[cfg(test)]
 mod tests;
 

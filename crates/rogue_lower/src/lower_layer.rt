@@ -127,7 +127,9 @@ impl HostTemplate for RogueLower {
         ensures left { self.new ≡ record self.old { probes = drop 1 self.old.probes } }
     {
         match self.probes.pop_front() {
-            Some((ProbeSay::Answered(answer), bytes)) => ProbeSay::Answered(fill(answer, &bytes, into)),
+            Some((ProbeSay::Answered(answer), bytes)) => ProbeSay::Answered(fill(
+                answer, &bytes, into,
+            )),
             _ => ProbeSay::Silent,
         }
     }

@@ -106,7 +106,11 @@ fn refusal_of_fixed_sense(length: usize) -> Option<SenseFault> {
 fn each_front_of_a_descriptor_sense_has_its_refusal(rt: HostRuntime) -> Result<(), Fail> {
     for length in 0..21 {
         let refused = refused_sense(rt.alloc(), &DESCRIPTOR_SENSE[..length])?;
-        assert_eq!(rt; refused, refusal_of_descriptor_sense(length), "{length} bytes");
+        assert_eq!(rt;
+            refused,
+            refusal_of_descriptor_sense(length),
+            "{length} bytes"
+        );
     }
     Ok(())
 }
@@ -145,8 +149,8 @@ fn refused_list(alloc: Global, bytes: &[u8]) -> Result<Option<ListFault>, Fail> 
 
 // Logical units 1, 2 and 514 (SPC-4, REPORT LUNS parameter data).
 const THREE_UNITS: [u8; 32] = [
-    0, 0, 0, 24, 0, 0, 0, 0, 0, 1, 0, 0, 0, 0, 0, 0, 0, 2, 0, 0, 0, 0, 0, 0, 0x42, 2, 0, 0, 0, 0, 0,
-    0,
+    0, 0, 0, 24, 0, 0, 0, 0, 0, 1, 0, 0, 0, 0, 0, 0, 0, 2, 0, 0, 0, 0, 0, 0, 0x42, 2, 0, 0, 0, 0,
+    0, 0,
 ];
 
 fn refusal_of_three_units(length: usize) -> Option<ListFault> {
