@@ -6,6 +6,7 @@
 #![tactic(auto)]
 
 mod filling;
+mod laws;
 mod lower_layer;
 #[cfg(test)]
 mod probe_tests;
@@ -14,4 +15,5 @@ mod taking;
 #[cfg(test)]
 mod tests;
 
+pub use laws::{rogues_are_not_honest, rogues_stand_everywhere};
 pub use rogue::RogueLower;

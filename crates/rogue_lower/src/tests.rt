@@ -135,10 +135,14 @@ fn answers_wait_for_those_before_them(rt: HostRuntime) -> Result<(), Fail> {
     Ok(())
 }
 
+fn expired(lower: &mut RogueLower) -> TimerSay {
+    lower.timed_out(Attempt(1), DEV, Tick(0))
+}
+
 #[test]
 fn timers_come_to_what_their_list_says(rt: HostRuntime) -> Result<(), Fail> {
     let mut lower = acting(rt.alloc(), &[TimerSay::Done, TimerSay::ResetTimer], &[])?;
-    let said = [0; 3].map(|now| lower.timed_out(Attempt(1), DEV, Tick(now)));
+    let said = [expired(&mut lower), expired(&mut lower), expired(&mut lower)];
     assert_eq!(rt;
         said,
         [TimerSay::Done, TimerSay::ResetTimer, TimerSay::NotHandled]
