@@ -6,8 +6,8 @@ NO_RT = There is no command rt here. This repository is proved and built by the 
 .PHONY: help try play ci bench
 
 help:
-	@echo "make try SCRIPT=FILE    plays a script at once: the program is built without proof, which takes about a minute"
-	@echo "make play SCRIPT=FILE   proves the crates that the program stands on, builds it and plays; seconds where nothing has changed"
+	@echo "make try SCRIPT=FILE    plays a script at once: the program is built without proof, each time"
+	@echo "make play SCRIPT=FILE   proves the crates that the program stands on, builds it and plays; where nothing has changed, nothing is proved again"
 	@echo "make ci                 the gate: each proof, test, must-fail edit and example"
 	@echo "make bench              measures"
 	@echo "tools/timeline          draws what was printed: make -s try SCRIPT=FILE | tools/timeline"
