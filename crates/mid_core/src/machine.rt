@@ -1,6 +1,8 @@
-ghost use Rattle.std.specs.Prelude.{◌≡◌, ◌↔◌, ◌≤◌, ◌<◌, ◌+◌, true, [], reverse, IfOk, IsOk, OnOk, IsTrue};
+ghost use Rattle.std.specs.Prelude.{◌≡◌, ◌↔◌, ◌≤◌, ◌<◌, ◌+◌, ◌^◌, true, [], reverse, IfOk, IsOk, OnOk, IsTrue};
 ghost use Rattle.mid_base.specs.Address.{has_dev};
 ghost use Rattle.mid_base.specs.Limits.{KeepsLimits};
+ghost use Rattle.host_state.specs.HostAgrees.{HaveTags};
+ghost use Rattle.trace_model.specs.Attempts.{sends};
 ghost use Rattle.trace_model.specs.Devices.{state};
 ghost use Rattle.trace_model.specs.Drained.{Drained};
 ghost use Rattle.trace_model.specs.Legal.{Legal};
@@ -85,9 +87,11 @@ impl<A: HostTemplate> Core<A> {
         &self.spec
     }
 
-    /// The journal, the oldest entry first.
+    /// The journal, the oldest entry first. Fewer than 2^60 attempts were sent, each with one of the host's tags.
     pub fn journal(&self) -> &[Entry]
         ensures entries { result.now ≡ self.now.journal }
+        ensures few { sends (reverse self.now.journal) < 2 ^ 60 }
+        ensures tagged { HaveTags self.now.spec.can_queue (reverse self.now.journal) }
         ensures legal { Legal self.now.spec self.now.journal }
         ensures stands { A.stands self.now.lower self.now.spec self.now.before (reverse self.now.journal) }
     {
