@@ -13,6 +13,8 @@ import scripts
 
 ROUNDS = 3
 MOST_GROWTH = 1.3
+# A script, and one of the same kind that is ten times as long.
+GROWING = [("2,000 commands", "20,000 commands"), ("1,984 timed out", "20,000 timed out")]
 
 
 def play(launcher, program, path, wanted):
@@ -54,10 +56,11 @@ def main():
     for name in each:
         if name not in ("2,000 commands", "20,000 commands"):
             print(f"{name} to 20,000 commands: {each[name] / usual:.2f} times as long a command")
-    growth = usual / each["2,000 commands"]
-    print(f"20,000 to 2,000 commands: {growth:.2f} times as long a command")
-    if growth > MOST_GROWTH:
-        sys.exit(f"bench: more than {MOST_GROWTH} times as long a command")
+    for short, long in GROWING:
+        growth = each[long] / each[short]
+        print(f"{long} to {short}: {growth:.2f} times as long a command")
+        if growth > MOST_GROWTH:
+            sys.exit(f"bench: more than {MOST_GROWTH} times as long a command")
 
 
 main()

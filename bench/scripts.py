@@ -26,10 +26,10 @@ def writes(i):
     return f"2a00{8 * i % 65536:08x}00000800 {i % 256:02x}"
 
 
-def commands(count, units, block):
+def commands(count, units, block, timeout=30):
     """READ(10) or WRITE(10) of eight blocks, of all units in turn, in four lanes in turn."""
     for i in range(1, count + 1):
-        yield f"cmd {i} 0 {i % 4} {unit(i % units)} 30 5 - {block(i)}"
+        yield f"cmd {i} 0 {i % 4} {unit(i % units)} {timeout} 5 - {block(i)}"
 
 
 def round_trip(numbers, spare):
@@ -70,6 +70,36 @@ def skipping(count, units=256):
     yield "end stop"
 
 
+def timed_out(count, units=4, at_once=32):
+    """The first attempt of each command isn't answered: it is asked about, taken by its timer, aborted and sent again. The number of
+    commands is a multiple of those that are under way at a time."""
+    each = at_once // units
+    yield from hosts(units, 2 * at_once, 16, 0)
+    for i in range(units):
+        for k in range(1, each + 1):
+            yield f"plan 0 {unit(i)} never {k} {2 * each} {count // at_once}"
+    yield from commands(count, units, reads, 2)
+    for first in range(1, count + 1, at_once):
+        for n in range(first, first + at_once):
+            yield f"step 0 submit {n % 4}"
+        for _ in range(at_once):
+            yield "step 0 send"
+        yield "step 0 tick"
+        yield "step 0 tick"
+        lost = range(2 * first - 1, 2 * first - 1 + at_once)
+        for _ in lost:
+            yield "step 0 due"
+        for n in lost:
+            yield f"step 0 own {n} expiry"
+        for n in lost:
+            yield f"step 0 settle {n}"
+        for _ in lost:
+            yield "step 0 abort"
+        yield "step 0 tick"
+        yield from round_trip(range(lost.stop, lost.stop + at_once), 0)
+    yield "end stop"
+
+
 # The name of each script, how many commands it has, and its lines.
 SCRIPTS = [
     ("2,000 commands", 2_000, lambda: script(2_000)),
@@ -81,6 +111,8 @@ SCRIPTS = [
     ("a third of the sends skipped", 20_000, lambda: skipping(20_000)),
     ("20,000 planned faults", 20_000, lambda: script(20_000, faults=20_000)),
     ("60,000 faults of a unit", 20_000, lambda: script(20_000, units=1, depth=32, faults=60_000)),
+    ("1,984 timed out", 1_984, lambda: timed_out(1_984)),
+    ("20,000 timed out", 20_000, lambda: timed_out(20_000)),
 ]
 
 
