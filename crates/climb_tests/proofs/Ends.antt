@@ -93,7 +93,7 @@ left_of_both es fs (x ∷ xs) = ⊎_elim
     (cases_Bool (is_left es x))
   where
     here : is_left es x ≡ true → is_left fs x ≡ true → left_after fs (left_after es xs) ≡ left_after (es ++ fs) xs → left_after fs (left_after es (x ∷ xs)) ≡ left_after (es ++ fs) (x ∷ xs)
-    here yes stays h = rw (left_both es fs x) (rw yes (rw stays (ap (λ (y : Todo). y ∷ left_after fs (left_after es xs)) (told_both es fs x) ∙ ap (λ (ys : List Todo). as_told (es ++ fs) x ∷ ys) h)))
+    here in_es in_fs h = rw (left_both es fs x) (rw in_es (rw in_fs (ap (λ (y : Todo). y ∷ left_after fs (left_after es xs)) (told_both es fs x) ∙ ap (λ (ys : List Todo). as_told (es ++ fs) x ∷ ys) h)))
 
 pub none_told : (xs : List Todo) → left_after [] xs ≡ xs
 none_told [] = refl
