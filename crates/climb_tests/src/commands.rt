@@ -55,11 +55,5 @@ pub(crate) fn told<A: HostTemplate>(
     aborts: bool,
 ) -> Result<Vec<Entry>, Fail> {
     let mut into = [0u8; 2056];
-    Ok(recovered(
-        todo.to_vec(alloc)?,
-        handlers,
-        aborts,
-        lower,
-        &mut into,
-    )?)
+    Ok(recovered(todo.to_vec(alloc)?, handlers, aborts, lower, &mut into)?)
 }

@@ -1,5 +1,5 @@
-use crate::rogue::Rogue;
 use crate::commands::{all_callbacks, cancelled, told};
+use crate::rogue::Rogue;
 use bitflags::Flags;
 use escalation::Todo;
 use mid_base::{Answer, DID_OK, DevAddr, GOOD, Handlers, ProbeSay, SenseBytes};

@@ -15,7 +15,15 @@ const TARGET_CLEARS: &str = "host 0
 fn a_device_reset_that_fails_is_followed_by_a_target_reset(rt: HostRuntime) -> Result<(), Fail> {
     let mut lower = adapter(rt.alloc(), false, &[planned(FIRST, Fault::Rdev, 1)])?;
     let todo = [cancelled(1, FIRST)];
-    assert!(rt; prints(rt.alloc(), &mut lower, &todo, all_callbacks(), TARGET_CLEARS)?);
+    assert!(rt;
+        prints(
+            rt.alloc(),
+            &mut lower,
+            &todo,
+            all_callbacks(),
+            TARGET_CLEARS
+        )?
+    );
     Ok(())
 }
 
@@ -146,6 +154,14 @@ const ONE_OF_TWO_IS_READY: &str = "host 0
 fn a_target_reset_clears_the_commands_of_ready_devices(rt: HostRuntime) -> Result<(), Fail> {
     let mut lower = adapter(rt.alloc(), false, &[planned(SECOND, Fault::Silent, 1)])?;
     let todo = [cancelled(2, SECOND), cancelled(1, FIRST)];
-    assert!(rt; prints(rt.alloc(), &mut lower, &todo, Handlers::TARGET, ONE_OF_TWO_IS_READY)?);
+    assert!(rt;
+        prints(
+            rt.alloc(),
+            &mut lower,
+            &todo,
+            Handlers::TARGET,
+            ONE_OF_TWO_IS_READY
+        )?
+    );
     Ok(())
 }

@@ -1,5 +1,5 @@
-use crate::rogue::Rogue;
 use crate::commands::{FIRST, OTHER, SECOND, all_callbacks, cancelled, told};
+use crate::rogue::Rogue;
 use bitflags::Flags;
 use escalation::{Acted, Ladder, Todo};
 use mid_base::{
@@ -78,7 +78,10 @@ fn each_command_is_cleared_once_whatever_is_answered(rt: HostRuntime) -> Result<
         for first in says() {
             for second in says() {
                 let says = [first, second, ProbeSay::Silent];
-                assert!(rt; clears_each(rt.alloc(), bits, says, bits % 3 == 0)?, "{bits} {says:?}");
+                assert!(rt;
+                    clears_each(rt.alloc(), bits, says, bits % 3 == 0)?,
+                    "{bits} {says:?}"
+                );
             }
         }
     }

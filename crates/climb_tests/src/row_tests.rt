@@ -18,7 +18,15 @@ const NO_CALLBACKS_OFFLINE: &str = "host 0
 fn without_callbacks_a_device_goes_offline(rt: HostRuntime) -> Result<(), Fail> {
     let mut lower = adapter(rt.alloc(), false, &[])?;
     let todo = [cancelled(1, FIRST)];
-    assert!(rt; prints(rt.alloc(), &mut lower, &todo, Handlers::empty(), NO_CALLBACKS_OFFLINE)?);
+    assert!(rt;
+        prints(
+            rt.alloc(),
+            &mut lower,
+            &todo,
+            Handlers::empty(),
+            NO_CALLBACKS_OFFLINE
+        )?
+    );
     Ok(())
 }
 
@@ -34,7 +42,15 @@ const TWO_COMMANDS_RECOVERED: &str = "host 0
 fn a_reset_of_their_device_clears_two_commands(rt: HostRuntime) -> Result<(), Fail> {
     let mut lower = adapter(rt.alloc(), false, &[])?;
     let todo = [cancelled(1, FIRST), cancelled(2, FIRST)];
-    assert!(rt; prints(rt.alloc(), &mut lower, &todo, Handlers::DEVICE, TWO_COMMANDS_RECOVERED)?);
+    assert!(rt;
+        prints(
+            rt.alloc(),
+            &mut lower,
+            &todo,
+            Handlers::DEVICE,
+            TWO_COMMANDS_RECOVERED
+        )?
+    );
     Ok(())
 }
 
@@ -51,7 +67,15 @@ fn fetched_sense_of_a_reset_clears_its_command(rt: HostRuntime) -> Result<(), Fa
     let plan = [planned(FIRST, Fault::NoSense(6, 0x29, 0), 1)];
     let mut lower = adapter(rt.alloc(), false, &plan)?;
     let todo = [answered(&mut lower, 1, FIRST)?];
-    assert!(rt; prints(rt.alloc(), &mut lower, &todo, all_callbacks(), FETCHED_SENSE)?);
+    assert!(rt;
+        prints(
+            rt.alloc(),
+            &mut lower,
+            &todo,
+            all_callbacks(),
+            FETCHED_SENSE
+        )?
+    );
     Ok(())
 }
 
@@ -71,7 +95,15 @@ fn sense_with_a_cut_descriptor_is_fetched_again(rt: HostRuntime) -> Result<(), F
     let plan = [planned(FIRST, Fault::Raw(SenseBytes::from_slice(&CUT)), 1)];
     let mut lower = adapter(rt.alloc(), false, &plan)?;
     let todo = [answered(&mut lower, 1, FIRST)?];
-    assert!(rt; prints(rt.alloc(), &mut lower, &todo, all_callbacks(), CUT_DESCRIPTOR)?);
+    assert!(rt;
+        prints(
+            rt.alloc(),
+            &mut lower,
+            &todo,
+            all_callbacks(),
+            CUT_DESCRIPTOR
+        )?
+    );
     Ok(())
 }
 
@@ -94,7 +126,15 @@ fn a_stopped_unit_is_started(rt: HostRuntime) -> Result<(), Fail> {
 fn no_unit_is_started_beside_a_cancelled_command(rt: HostRuntime) -> Result<(), Fail> {
     let mut lower = adapter(rt.alloc(), true, &[])?;
     let todo = [answered(&mut lower, 1, FIRST)?, cancelled(2, FIRST)];
-    assert!(rt; prints(rt.alloc(), &mut lower, &todo, Handlers::DEVICE, TWO_COMMANDS_RECOVERED)?);
+    assert!(rt;
+        prints(
+            rt.alloc(),
+            &mut lower,
+            &todo,
+            Handlers::DEVICE,
+            TWO_COMMANDS_RECOVERED
+        )?
+    );
     Ok(())
 }
 
@@ -114,7 +154,15 @@ fn a_command_that_fails_again_keeps_its_fetched_sense(rt: HostRuntime) -> Result
     let plan = [planned(FIRST, Fault::NoSense(2, 4, 2), 1)];
     let mut lower = adapter(rt.alloc(), false, &plan)?;
     let todo = [answered(&mut lower, 1, FIRST)?];
-    assert!(rt; prints(rt.alloc(), &mut lower, &todo, all_callbacks(), JUDGED_FAIL_AGAIN)?);
+    assert!(rt;
+        prints(
+            rt.alloc(),
+            &mut lower,
+            &todo,
+            all_callbacks(),
+            JUDGED_FAIL_AGAIN
+        )?
+    );
     Ok(())
 }
 
@@ -127,7 +175,13 @@ const ABORTED: &str = "host 0
 #[test]
 fn a_command_is_aborted_where_the_ladder_does_that(rt: HostRuntime) -> Result<(), Fail> {
     let mut lower = adapter(rt.alloc(), false, &[])?;
-    let entries = told(rt.alloc(), &mut lower, &[cancelled(1, FIRST)], all_callbacks(), true)?;
+    let entries = told(
+        rt.alloc(),
+        &mut lower,
+        &[cancelled(1, FIRST)],
+        all_callbacks(),
+        true,
+    )?;
     assert!(rt; is_text(rt.alloc(), &entries, ABORTED)?);
     Ok(())
 }
@@ -144,7 +198,15 @@ const LATER_COMMAND_FIRST: &str = "host 0
 fn commands_are_cleared_in_the_order_in_which_they_failed(rt: HostRuntime) -> Result<(), Fail> {
     let mut lower = adapter(rt.alloc(), false, &[])?;
     let todo = [cancelled(2, FIRST), cancelled(1, FIRST)];
-    assert!(rt; prints(rt.alloc(), &mut lower, &todo, Handlers::DEVICE, LATER_COMMAND_FIRST)?);
+    assert!(rt;
+        prints(
+            rt.alloc(),
+            &mut lower,
+            &todo,
+            Handlers::DEVICE,
+            LATER_COMMAND_FIRST
+        )?
+    );
     Ok(())
 }
 

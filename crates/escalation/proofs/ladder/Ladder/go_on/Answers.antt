@@ -17,7 +17,7 @@ invariant_of-self c =
     let at = c.self.inside.at in
     let k = c.passed-passed.result in
     let view = ap (λ (x : Climb). x.ahead) c.self.view_is in
-    let kept : c.retain.new.self.items ≡ filter (is_left entries) c.self.inside.left.items = 
+    let kept : c.retain.new.self.items ≡ filter (is_left entries) c.self.inside.left.items =
     filter_same _ (λ x. not (list_any (is_id x.cmd.0) c.args.cleared.now)) _ (λ x b f' h. search (rules, c.requires.cleared.rise)) _ _ c.retain.ensures.filtered ∙ same_left entries c.args.cleared.now c.requires.cleared c.self.inside.left.items
     in
     let left : c.take_sense.new.left.items ≡ map (as_told entries) (filter (is_left entries) c.args.self.now.left) =
@@ -37,7 +37,7 @@ returns c =
     let at = c.self.inside.at in
     let k = c.passed-passed.result in
     let view = ap (λ (x : Climb). x.ahead) c.self.view_is in
-    let kept : c.retain.new.self.items ≡ filter (is_left entries) c.self.inside.left.items = 
+    let kept : c.retain.new.self.items ≡ filter (is_left entries) c.self.inside.left.items =
     filter_same _ (λ x. not (list_any (is_id x.cmd.0) c.args.cleared.now)) _ (λ x b f' h. search (rules, c.requires.cleared.rise)) _ _ c.retain.ensures.filtered ∙ same_left entries c.args.cleared.now c.requires.cleared c.self.inside.left.items
     in
     let ahead : map pair_at (drop (at + k) rs) ≡ beyond_pair (pair_at c.args.rung.now) c.args.self.now.ahead =
