@@ -20,6 +20,7 @@ pub record Lists : Type 0 where
 abbrev pub with_bytes : ProbeSay × Vec ℕ Global → ProbeSay × List ℕ
 with_bytes p = (p.0, p.1.items)
 
-abbrev pub lists_of : List Queued → List (Tick × Attempt × Answer) → List TimerSay → List EhSay → List (ProbeSay × Vec ℕ Global) → Lists
+abbrev pub lists_of : List Queued → List (Tick × Attempt × Answer) → List TimerSay → List EhSay
+    → List (ProbeSay × Vec ℕ Global) → Lists
 lists_of queues answers timers says probes =
     record { queues = queues; answers = answers; timers = timers; says = says; probes = map with_bytes probes }

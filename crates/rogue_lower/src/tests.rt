@@ -142,7 +142,11 @@ fn expired(lower: &mut RogueLower) -> TimerSay {
 #[test]
 fn timers_come_to_what_their_list_says(rt: HostRuntime) -> Result<(), Fail> {
     let mut lower = acting(rt.alloc(), &[TimerSay::Done, TimerSay::ResetTimer], &[])?;
-    let said = [expired(&mut lower), expired(&mut lower), expired(&mut lower)];
+    let said = [
+        expired(&mut lower),
+        expired(&mut lower),
+        expired(&mut lower),
+    ];
     assert_eq!(rt;
         said,
         [TimerSay::Done, TimerSay::ResetTimer, TimerSay::NotHandled]
