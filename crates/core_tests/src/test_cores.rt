@@ -1,6 +1,6 @@
 use crate::{
-    command, gave, keeps_limits, made_no_tag_step, read_first_block, sent, settled,
-    simulated_core, test_unit_ready, unit,
+    command, gave, keeps_limits, made_no_tag_step, read_first_block, sent, settled, simulated_core,
+    test_unit_ready, unit,
 };
 use bitflags::Flags;
 use debug_adapter::DebugAdapter;

@@ -5,8 +5,8 @@ ghost use Rattle.mid_base.specs.Limits.{KeepsLimits};
 use crate::Running;
 use bitflags::Flags;
 use mid_base::{
-    Attempt, CdbBytes, CmdId, CmdSpec, DevAddr, DeviceState, Handlers, HostNo, HostSpec, LaneNo, LunSpec,
-    NoMemory, Rows, TagState, Tick,
+    Attempt, CdbBytes, CmdId, CmdSpec, DevAddr, DeviceState, Handlers, HostNo, HostSpec, LaneNo,
+    LunSpec, NoMemory, Rows, TagState, Tick,
 };
 use std::alloc::Global;
 

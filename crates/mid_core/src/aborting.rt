@@ -67,13 +67,7 @@ fn can_abort(handlers: Handlers) -> bool
 
 /// Enters into the running state what follows the abort of an attempt, and gives the entry that says it: after a success the
 /// verdict on a command without an answer, else the failure of the command.
-fn settle_aborted(
-    spec: &HostSpec,
-    running: &mut Running,
-    n: Attempt,
-    row: Row,
-    ok: bool,
-) -> Entry
+fn settle_aborted(spec: &HostSpec, running: &mut Running, n: Attempt, row: Row, ok: bool) -> Entry
     requires runs { IsRunning spec.now running.old }
     requires first { IsFirstAbort running.old n row }
     ensures entry { (P : List EntrySeen) → HostAgrees spec.now P running.old → result ≡ after_abort spec.now P row.command n ok }

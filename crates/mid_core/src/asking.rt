@@ -31,12 +31,7 @@ impl<A: HostTemplate> Core<A> {
 
 /// Asks the lower layer about an attempt whose time is up (`scsi_eh.rst`, "Completing a scmd w/ timeout"), enters its answer
 /// into the running state, and gives the entry that says it.
-fn ask<A: HostTemplate>(
-    spec: &HostSpec,
-    lower: &mut A,
-    running: &mut Running,
-    n: Attempt,
-) -> Entry
+fn ask<A: HostTemplate>(spec: &HostSpec, lower: &mut A, running: &mut Running, n: Attempt) -> Entry
     requires runs { IsRunning spec.now running.old }
     requires asked { IsAsked running.old n }
     requires room { HasRoom running.old.attempts }

@@ -13,12 +13,7 @@ use mid_base::{Attempt, CmdSpec, Entry, HostSpec};
 
 /// Settles an attempt that its expired timer owns: its abort is scheduled, or its command has failed. Gives the entry that
 /// says so (`scsi_eh.rst`, "Completing a scmd w/ timeout").
-pub(crate) fn settle_expired(
-    spec: &HostSpec,
-    running: &mut Running,
-    n: Attempt,
-    row: Row,
-) -> Entry
+pub(crate) fn settle_expired(spec: &HostSpec, running: &mut Running, n: Attempt, row: Row) -> Entry
     requires runs { IsRunning spec.now running.old }
     requires expired { IsExpiredRow running.old n row }
     ensures entry { (P : List EntrySeen) → HostAgrees spec.now P running.old → result ≡ after_expiry spec.now P row.command n }

@@ -30,7 +30,7 @@ returns-in-NotHandled-clause-stands g c = λ P b runs stood.
     (c.now.ensures ∙ sym runs.time) stood)
 
 pub returns-in-ResetTimer-clause-runs : goal.returns-in-ResetTimer-clause-runs
-returns-in-ResetTimer-clause-runs g c = λ P runs. 
+returns-in-ResetTimer-clause-runs g c = λ P runs.
     let there = sym c.attempt.ensures ∙ c.in-Some.is in
     let within = command_within c.args.spec.now P c.args.running.now runs c.args.n.0 c.in-Some.row there in
     let read = read_there c.as_slice.result.now c.args.spec.now.cmds c.in-Some.row.place c.index-as_slice-row.result c.as_slice.ensures within c.index-as_slice-row.is in

@@ -36,11 +36,11 @@ returns-clause-runs c s P r =
             kept_moved n with_answer rows new moves (refl, refl, refl, λ has. has),
           )
       | inr isnt ↦ (
-          ap length (here.late isnt),
-          subst (λ (xs : List Row). AreUnderWay P xs) (sym (here.late isnt)) r.under_way,
-          subst (λ (xs : List Row). ArePlaced xs commands) (sym (here.late isnt)) r.placed,
-          kept_same rows new (here.late isnt),
-        )
+        ap length (here.late isnt),
+        subst (λ (xs : List Row). AreUnderWay P xs) (sym (here.late isnt)) r.under_way,
+        subst (λ (xs : List Row). ArePlaced xs commands) (sym (here.late isnt)) r.placed,
+        kept_same rows new (here.late isnt),
+      )
     ]
     in
     record {

@@ -65,8 +65,8 @@ returns-clause-runs c s P r =
       under_way =
           aborted_under_way P (last ∷ T) rows row.command tried.scheduled
           (λ k isnt. (
-          refl,
-          out_alike k P (last ∷ T) refl (ap (λ (b : Bool). cond b true (failed_since_sent k P)) isnt) (ap (λ (b : Bool). cond b false (is_aborting k P)) isnt),
+            refl,
+            out_alike k P (last ∷ T) refl (ap (λ (b : Bool). cond b true (failed_since_sent k P)) isnt) (ap (λ (b : Bool). cond b false (is_aborting k P)) isnt),
           ))
           r.under_way;
       placed = r.placed;
