@@ -1,167 +1,79 @@
-use crate::commands::{FIRST, OTHER, SECOND, all_callbacks, cancelled};
-use crate::simulated::{adapter, planned, prints};
-use mid_base::{Fault, Handlers};
+use crate::commands::{FIRST, all_callbacks, cancelled, told};
+use crate::rogue::Rogue;
+use bitflags::Flags;
+use mid_base::{Answer, CmdId, DID_OK, Entry, GOOD, Handlers, ProbeSay, Scope, SenseBytes};
+use std::alloc::Global;
 use std::test::Fail;
 
-const TARGET_CLEARS: &str = "host 0
-0 act 4 0:0:0 failed
-0 act 5 0:0 ok
-0 probe 0:0:0 00 00 02 0 0 700006000000000a00000000290000000000
-0 probe 0:0:0 00 00 00 0 0 -
-0 cleared 1 5
-";
+fn ready() -> ProbeSay {
+    ProbeSay::Answered(Answer {
+        host: DID_OK,
+        status: GOOD,
+        sense: SenseBytes::empty(),
+        moved: 0,
+        sum: 0,
+    })
+}
+
+// Whether these entries are told of a climb of a command of a device that is ready after each reset, where these callbacks
+// succeed.
+fn tells(alloc: Global, succeeds: Handlers, wanted: &[Entry]) -> Result<bool, Fail> {
+    let mut lower = Rogue {
+        succeeds,
+        says: [ready(), ready(), ready()],
+        calls: 0,
+    };
+    let todo = [cancelled(1, FIRST)];
+    let entries = told(alloc, &mut lower, &todo, all_callbacks(), false)?;
+    Ok(entries.as_slice() == wanted)
+}
+
+#[test]
+fn a_device_reset_clears_its_command(rt: HostRuntime) -> Result<(), Fail> {
+    let wanted = [
+        Entry::Act(4, Scope::Dev(FIRST), true),
+        Entry::Probe(FIRST, 0, ready()),
+        Entry::Cleared(CmdId(1), 4),
+    ];
+    assert!(rt; tells(rt.alloc(), Handlers::DEVICE, &wanted)?);
+    Ok(())
+}
 
 #[test]
 fn a_device_reset_that_fails_is_followed_by_a_target_reset(rt: HostRuntime) -> Result<(), Fail> {
-    let mut lower = adapter(rt.alloc(), false, &[planned(FIRST, Fault::Rdev, 1)])?;
-    let todo = [cancelled(1, FIRST)];
-    assert!(rt;
-        prints(
-            rt.alloc(),
-            &mut lower,
-            &todo,
-            all_callbacks(),
-            TARGET_CLEARS
-        )?
-    );
+    let wanted = [
+        Entry::Act(4, Scope::Dev(FIRST), false),
+        Entry::Act(5, Scope::Target(0, 0), true),
+        Entry::Probe(FIRST, 0, ready()),
+        Entry::Cleared(CmdId(1), 5),
+    ];
+    assert!(rt; tells(rt.alloc(), Handlers::TARGET, &wanted)?);
     Ok(())
 }
-
-const BUS_CLEARS: &str = "host 0
-0 act 4 0:0:0 failed
-0 act 5 0:0 failed
-0 act 6 0 ok
-0 probe 0:0:0 00 00 02 0 0 700006000000000a00000000290000000000
-0 probe 0:0:0 00 00 00 0 0 -
-0 cleared 1 6
-";
 
 #[test]
 fn a_target_reset_that_fails_is_followed_by_a_bus_reset(rt: HostRuntime) -> Result<(), Fail> {
-    let plan = [
-        planned(FIRST, Fault::Rdev, 1),
-        planned(FIRST, Fault::Rtgt, 1),
+    let wanted = [
+        Entry::Act(4, Scope::Dev(FIRST), false),
+        Entry::Act(5, Scope::Target(0, 0), false),
+        Entry::Act(6, Scope::Bus(0), true),
+        Entry::Probe(FIRST, 0, ready()),
+        Entry::Cleared(CmdId(1), 6),
     ];
-    let mut lower = adapter(rt.alloc(), false, &plan)?;
-    let todo = [cancelled(1, FIRST)];
-    assert!(rt; prints(rt.alloc(), &mut lower, &todo, all_callbacks(), BUS_CLEARS)?);
+    assert!(rt; tells(rt.alloc(), Handlers::BUS, &wanted)?);
     Ok(())
 }
-
-const HOST_CLEARS: &str = "host 0
-0 act 4 0:0:0 failed
-0 act 5 0:0 failed
-0 act 6 0 failed
-0 act 7 - ok
-0 probe 0:0:0 00 00 02 0 0 700006000000000a00000000290000000000
-0 probe 0:0:0 00 00 00 0 0 -
-0 cleared 1 7
-";
 
 #[test]
 fn a_bus_reset_that_fails_is_followed_by_a_host_reset(rt: HostRuntime) -> Result<(), Fail> {
-    let plan = [
-        planned(FIRST, Fault::Rdev, 1),
-        planned(FIRST, Fault::Rtgt, 1),
-        planned(FIRST, Fault::Rbus, 1),
+    let wanted = [
+        Entry::Act(4, Scope::Dev(FIRST), false),
+        Entry::Act(5, Scope::Target(0, 0), false),
+        Entry::Act(6, Scope::Bus(0), false),
+        Entry::Act(7, Scope::Host, true),
+        Entry::Probe(FIRST, 0, ready()),
+        Entry::Cleared(CmdId(1), 7),
     ];
-    let mut lower = adapter(rt.alloc(), false, &plan)?;
-    let todo = [cancelled(1, FIRST)];
-    assert!(rt; prints(rt.alloc(), &mut lower, &todo, all_callbacks(), HOST_CLEARS)?);
-    Ok(())
-}
-
-const ALL_FAIL: &str = "host 0
-0 act 4 0:0:0 failed
-0 act 5 0:0 failed
-0 act 6 0 failed
-0 act 7 - failed
-0 act 8 0:0:0 ok
-0 offline 0:0:0
-0 cleared 1 8
-";
-
-#[test]
-fn a_host_reset_that_fails_is_followed_by_giving_up(rt: HostRuntime) -> Result<(), Fail> {
-    let plan = [
-        planned(FIRST, Fault::Rdev, 1),
-        planned(FIRST, Fault::Rtgt, 1),
-        planned(FIRST, Fault::Rbus, 1),
-        planned(FIRST, Fault::Rhost, 1),
-    ];
-    let mut lower = adapter(rt.alloc(), false, &plan)?;
-    let todo = [cancelled(1, FIRST)];
-    assert!(rt; prints(rt.alloc(), &mut lower, &todo, all_callbacks(), ALL_FAIL)?);
-    Ok(())
-}
-
-const EACH_CHANNEL: &str = "host 0
-0 act 4 0:0:0 failed
-0 act 4 1:0:0 failed
-0 act 5 0:0 failed
-0 act 5 1:0 failed
-0 act 6 0 ok
-0 probe 0:0:0 00 00 02 0 0 700006000000000a00000000290000000000
-0 probe 0:0:0 00 00 00 0 0 -
-0 cleared 2 6
-0 act 6 1 ok
-0 probe 1:0:0 00 00 02 0 0 700006000000000a00000000290000000000
-0 probe 1:0:0 00 00 00 0 0 -
-0 cleared 1 6
-";
-
-#[test]
-fn each_channel_has_its_own_resets(rt: HostRuntime) -> Result<(), Fail> {
-    let mut lower = adapter(rt.alloc(), false, &[])?;
-    let todo = [cancelled(1, OTHER), cancelled(2, FIRST)];
-    assert!(rt; prints(rt.alloc(), &mut lower, &todo, Handlers::BUS, EACH_CHANNEL)?);
-    Ok(())
-}
-
-const SILENT_ONCE: &str = "host 0
-0 act 4 0:0:0 ok
-0 probe 0:0:0 00 silent
-0 act 5 0:0 ok
-0 probe 0:0:0 00 00 02 0 0 700006000000000a00000000290000000000
-0 probe 0:0:0 00 00 00 0 0 -
-0 cleared 1 5
-";
-
-#[test]
-fn a_device_that_is_silent_after_its_reset_is_not_ready(rt: HostRuntime) -> Result<(), Fail> {
-    let mut lower = adapter(rt.alloc(), false, &[planned(FIRST, Fault::Silent, 1)])?;
-    let todo = [cancelled(1, FIRST)];
-    assert!(rt; prints(rt.alloc(), &mut lower, &todo, all_callbacks(), SILENT_ONCE)?);
-    Ok(())
-}
-
-const ONE_OF_TWO_IS_READY: &str = "host 0
-0 act 4 0:0:0 failed
-0 act 4 0:0:1 failed
-0 act 5 0:0 ok
-0 probe 0:0:0 00 00 02 0 0 700006000000000a00000000290000000000
-0 probe 0:0:0 00 00 00 0 0 -
-0 probe 0:0:1 00 silent
-0 cleared 1 5
-0 act 6 0 failed
-0 act 7 - failed
-0 act 8 0:0:1 ok
-0 offline 0:0:1
-0 cleared 2 8
-";
-
-#[test]
-fn a_target_reset_clears_the_commands_of_ready_devices(rt: HostRuntime) -> Result<(), Fail> {
-    let mut lower = adapter(rt.alloc(), false, &[planned(SECOND, Fault::Silent, 1)])?;
-    let todo = [cancelled(2, SECOND), cancelled(1, FIRST)];
-    assert!(rt;
-        prints(
-            rt.alloc(),
-            &mut lower,
-            &todo,
-            Handlers::TARGET,
-            ONE_OF_TWO_IS_READY
-        )?
-    );
+    assert!(rt; tells(rt.alloc(), Handlers::HOST, &wanted)?);
     Ok(())
 }
