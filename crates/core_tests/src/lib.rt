@@ -20,8 +20,6 @@ mod row_tests;
 mod step_tests;
 #[cfg(test)]
 mod test_cores;
-#[cfg(test)]
-mod timeout_tests;
 
 pub use callers::{gave, made_no_tag_step, sent, settled};
 pub use hosts::{
