@@ -2,6 +2,8 @@
 //! results.
 #![tactic(auto)]
 
+#[cfg(test)]
+mod barred_rows;
 mod host;
 mod playing;
 mod reading;

@@ -1,3 +1,4 @@
+use crate::barred_rows::BARRED;
 use crate::rows::{ENDS, FIRST, PLAYED};
 use crate::timeout_rows::TIMEOUTS;
 use crate::{Status, play};
@@ -33,6 +34,15 @@ fn scripts_are_played(rt: HostRuntime) -> Result<(), Fail> {
 #[test]
 fn scripts_with_timeouts_are_played(rt: HostRuntime) -> Result<(), Fail> {
     for (script, text) in TIMEOUTS {
+        let (_, written) = ends(rt.alloc(), script, 0, 0)?;
+        assert_eq!(rt; written.as_slice(), text.as_bytes(), "the text of {script}");
+    }
+    Ok(())
+}
+
+#[test]
+fn scripts_with_barred_steps_are_played(rt: HostRuntime) -> Result<(), Fail> {
+    for (script, text) in BARRED {
         let (_, written) = ends(rt.alloc(), script, 0, 0)?;
         assert_eq!(rt; written.as_slice(), text.as_bytes(), "the text of {script}");
     }

@@ -388,7 +388,63 @@ result 1 timeout 03 00 0 0 - 0
 end
 ";
 
-pub const TIMEOUTS: [(&str, &str); 9] = [
+// Two answers come at the deadline's own tick, and the timers of both attempts are first: each answer is ignored once, and both
+// commands go again after their aborts.
+const TWO_EXPIRIES: &str = "\
+host 0 4 adtbh
+lun 0 0:0:0 2048 8
+cmd 1 0 0 0:0:0 1 5 - 000000000000
+cmd 2 0 0 0:0:0 1 5 - 000000000000
+step 0 submit 0
+step 0 submit 0
+step 0 send
+step 0 send
+step 0 tick
+step 0 work
+step 0 work
+step 0 due
+step 0 due
+step 0 own 1 expiry
+step 0 own 2 expiry
+step 0 settle 1
+step 0 settle 2
+step 0 drop 2
+step 0 drop 1
+step 0 drop 1
+step 0 abort
+step 0 abort
+end stop
+";
+
+const TWO_EXPIRIES_TEXT: &str = "\
+host 0
+0 took 1
+0 took 2
+0 sent 1 1 0
+0 sent 2 2 1
+0 tick
+1 ready 1 00 00 0 0 -
+1 ready 2 00 00 0 0 -
+1 due 1
+1 due 2
+1 owned 1 expiry
+1 owned 2 expiry
+1 abortset 1 1
+1 abortset 2 2
+1 late 2
+1 late 1
+1 aborted 1 1 ok
+1 again 1 counted
+1 aborted 2 2 ok
+1 again 2 counted
+result 1 open 1
+result 2 open 1
+skipped 20 notlate
+end
+";
+
+/// Scripts with timeouts, and their texts.
+pub const TIMEOUTS: [(&str, &str); 10] = [
     (ANSWER_WINS, ANSWER_WINS_TEXT),
     (EXPIRY_WINS, EXPIRY_WINS_TEXT),
     (TIMER_DONE, TIMER_DONE_TEXT),
@@ -398,4 +454,5 @@ pub const TIMEOUTS: [(&str, &str); 9] = [
     (SECOND_EXPIRY, SECOND_EXPIRY_TEXT),
     (TWO_ABORTS, TWO_ABORTS_TEXT),
     (NO_RETRY_LEFT, NO_RETRY_LEFT_TEXT),
+    (TWO_EXPIRIES, TWO_EXPIRIES_TEXT),
 ];
