@@ -85,36 +85,6 @@ answered_row P n a f shut =
     ap (λ (x : Option Answer). record (row_of P f) { answer = cond f.cancelled None x })
     (sym (unwanted (n.0 == f.attempt.0) (is_open f.attempt.0 P) (not (is_answered f.attempt.0 P)) (Some a) (answer f.attempt.0 P) shut.1))
 
--- attempts that are under way no longer stay so
-closed : (b o : Bool) → o ≡ false → cond b false o ≡ false
-closed true o e = refl
-closed false o e = e
-
-pub shut_closed : (P Q : List Entry) (m : ℕ) → ((n : ℕ) → was_sent n Q ≡ was_sent n P) → ((n : ℕ) → is_open n Q ≡ cond (m == n) false (is_open n P)) → (fs : List Failure) → All (IsShut P) fs → All (IsShut Q) fs
-shut_closed P Q m sent opened fs shut =
-    All-weaker (IsShut P) (IsShut Q) (λ f h. (sent f.attempt.0 ∙ h.0, opened f.attempt.0 ∙ closed (m == f.attempt.0) (is_open f.attempt.0 P) h.1)) fs shut
-
-pub shut_sent : (P : List Entry) (c : CmdId) (n : Attempt) (t : Tag) → was_sent n.0 P ≡ false → (fs : List Failure) → All (IsShut P) fs → All (IsShut (entry.Sent c n t ∷ P)) fs
-shut_sent P c n t fresh fs shut =
-    All-weaker (IsShut P) (IsShut (entry.Sent c n t ∷ P)) still fs shut
-  where
-    still : (f : Failure) → IsShut P f → IsShut (entry.Sent c n t ∷ P) f
-    still f h =
-        let apart : (n.0 == f.attempt.0) ≡ false = ne_eqb n.0 f.attempt.0 (λ (e : n.0 ≡ f.attempt.0). false≢true (sym fresh ∙ (ap (λ (m : ℕ). was_sent m P) e ∙ h.0))) in
-        (cond-false (n.0 == f.attempt.0) true (was_sent f.attempt.0 P) apart ∙ h.0, cond-false (n.0 == f.attempt.0) true (is_open f.attempt.0 P) apart ∙ h.1)
-
--- a command that fails has the last row
-same_row : (P : List Entry) (c : CmdId) (n : Attempt) (cancelled : Bool) (x : Option Answer) → FailsWith P n.0 cancelled x
-    → record { command = c; attempt = n; cancelled = cancelled; answer = x; success = false } ≡ row_of P (record { cmd = c; attempt = n; cancelled = cancelled })
-same_row P c n cancelled x fails =
-    ap₂ (λ (a : Option Answer) (b : Bool). record { command = c; attempt = n; cancelled = cancelled; answer = a; success = b }) fails.answer (sym fails.verdict)
-
-pub rows_failed : (P : List Entry) (c : CmdId) (n : Attempt) (cancelled : Bool) (x : Option Answer) → FailsWith P n.0 cancelled x
-    → map (row_of P) (failed P) ++ record { command = c; attempt = n; cancelled = cancelled; answer = x; success = false } ∷ [] ≡ map (row_of (entry.Failed c n cancelled ∷ P)) (failed (entry.Failed c n cancelled ∷ P))
-rows_failed P c n cancelled x fails =
-    ap (λ (y : FailedRow). map (row_of P) (failed P) ++ y ∷ []) (same_row P c n cancelled x fails)
-    ∙ sym (map_push (row_of P) (failed P) (record { cmd = c; attempt = n; cancelled = cancelled }))
-
 -- each row is of a command that has failed
 found_here : (b c : Bool) → b ≡ true → b || c ≡ true
 found_here true c e = refl

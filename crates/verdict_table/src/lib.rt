@@ -8,6 +8,8 @@
 #![tactic(auto)]
 
 mod laws;
+#[cfg(test)]
+mod tests;
 mod verdicts;
 
 pub use laws::{
