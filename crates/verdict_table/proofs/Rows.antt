@@ -1,16 +1,14 @@
 -- What each entry does to the rows of the failed commands.
-use Rattle.std.proofs.Common.{◌≡◌, ◌∙◌, sym, ap, ap₂, refl, ℕ, ◌==◌, Bool, true, false, not, ◌&&◌, ◌||◌, List, [], ◌∷◌, ◌++◌, map, inl, inr}
+use Rattle.std.proofs.Common.{◌≡◌, ◌∙◌, sym, ap, ap₂, refl, ℕ, ◌==◌, Bool, true, false, not, ◌&&◌, ◌||◌, List, [], ◌∷◌, map, inl, inr}
 use Rattle.std.specs.Prelude.{cond, filter, Option, None, Some, option_map}
 use Rattle.std.specs.List.{All, list_any}
-use Rattle.std.proofs.lemmas.Bool.{cases_Bool, false≢true, and_from, cond-false, ne_eqb, eq-eqb}
-use Rattle.std.proofs.lemmas.List.{map_push}
+use Rattle.std.proofs.lemmas.Bool.{cases_Bool, false≢true, and_from, eq-eqb}
 use Rattle.std.proofs.lemmas.List.Elements.{All-nil, All-cons, All-head, All-tail, All-weaker}
 use Rattle.mid_base.specs.declared.answers.Answer.{Answer}
 use Rattle.mid_base.specs.declared.answers.Disp.{Disp}
 use Rattle.mid_base.specs.declared.bytes.SenseBytes.{SenseBytes}
 use Rattle.mid_base.specs.declared.names.Attempt.{Attempt}
 use Rattle.mid_base.specs.declared.names.CmdId.{CmdId}
-use Rattle.mid_base.specs.declared.names.Tag.{Tag}
 use Rattle.mid_base.specs.declared.entries.Entry.{Entry}
 use Rattle.mid_base.specs.declared.entries.Entry.TheVariants as entry
 use Rattle.mid_base.specs.Answers.{with_sense}
@@ -19,10 +17,10 @@ use Rattle.disposition.specs.Disp.{is_success}
 use Rattle.trace_model.specs.Attempts.{is_open, is_answered, answer}
 use Rattle.trace_model.specs.Commands.{judgement}
 use Rattle.trace_model.specs.Flush.{was_success}
-use Rattle.trace_model.specs.Recovery.{Failure, failed}
+use Rattle.trace_model.specs.Recovery.{Failure}
 use Rattle.verdict_table.specs.declared.verdicts.FailedRow.{FailedRow}
 use Rattle.verdict_table.specs.Taken.{has_failed}
-use Rattle.verdict_table.specs.VerdictsAgree.{row_of, IsShut, FailsWith, without, sensed, judged}
+use Rattle.verdict_table.specs.VerdictsAgree.{row_of, IsShut, without, sensed, judged}
 
 -- rows that are made alike
 pub map_alike : (f g : Failure → FailedRow) (P : List Entry) (fs : List Failure) → ((x : Failure) → IsShut P x → f x ≡ g x) → All (IsShut P) fs → map f fs ≡ map g fs

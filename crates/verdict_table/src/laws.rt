@@ -19,7 +19,7 @@ pub fn other_entries_change_no_verdict()
 
 /// So does an attempt that is sent and wasn't before, and any answer: the attempts of failed commands are under way no
 /// longer.
-pub fn an_answer_of_another_attempt_changes_no_verdict()
+pub fn a_new_attempt_or_an_answer_changes_no_verdict()
     ensures sent { (s : HostSpec) (P : List Entry) (t : Verdicts) (c : CmdId) (n : Attempt) (u : Tag) → was_sent n.0 P ≡ false → VerdictsAgree s P t → VerdictsAgree s (Sent c n u ∷ P) t }
     ensures answered { (s : HostSpec) (P : List Entry) (t : Verdicts) (n : Attempt) (a : Answer) → VerdictsAgree s P t → VerdictsAgree s (Ready n a ∷ P) t }
 {}

@@ -13,7 +13,7 @@ mod tests;
 mod verdicts;
 
 pub use laws::{
-    an_answer_of_another_attempt_changes_no_verdict, each_row_is_of_a_failed_command,
+    a_new_attempt_or_an_answer_changes_no_verdict, each_row_is_of_a_failed_command,
     other_entries_change_no_verdict, there_is_room_while_fewer_have_failed_than_there_are_tags,
 };
 pub use verdicts::{FailedRow, Verdicts};
