@@ -1,11 +1,12 @@
 -- From what is called and told to an act.
-use Rattle.std.proofs.Common.{◌≡◌, ◌≤◌, ℕ, suc, ◌+◌, ◌*◌, Bool, true, false, cond, ◌&&◌, List, [], ◌∷◌, ◌++◌, length, get_or, refl, sym, ap, ◌∙◌, subst, inl, inr, is_none, option_map, arith}
+use Rattle.std.proofs.Common.{◌≡◌, ◌≤◌, ◌⊎◌, ℕ, suc, zero, ◌+◌, ◌*◌, ◌==◌, Bool, true, false, cond, not, ◌&&◌, ◌||◌, List, [], ◌∷◌, ◌++◌, length, map, filter, get_or, refl, sym, ap, ◌∙◌, subst, inl, inr, ⊎_elim, Option, None, Some, is_none, option_map, arith}
 use mathlib.Core.Bool.{beq}
-use Rattle.std.proofs.lemmas.Bool.{eqb-true, and_parts, or_right}
+use Rattle.std.proofs.lemmas.Bool.{cases_Bool, eqb-true, and_parts, or_right}
 use Rattle.std.proofs.lemmas.List.{length-map}
 use Rattle.mid_base.specs.Bytes.{sense_list}
 use Rattle.mid_base.specs.declared.bytes.SenseBytes.{SenseBytes}
 use Rattle.mid_base.specs.declared.names.CmdId.{CmdId}
+use Rattle.mid_base.specs.declared.names.DevAddr.{DevAddr}
 use Rattle.mid_base.specs.declared.answers.Disp.{Disp}
 use Rattle.mid_base.specs.declared.answers.Disp.TheVariants.{Success, Retry, Requeue, Fail}
 use Rattle.mid_base.specs.declared.answers.ProbeSay.{ProbeSay}
@@ -23,20 +24,20 @@ use Rattle.disposition.specs.declared.todo.Todo.{Todo}
 use Rattle.disposition.specs.Ladder.{is_in_scope}
 use Rattle.host_template.specs.declared.says.EhSay.{EhSay}
 use Rattle.host_template.specs.declared.says.EhSay.TheVariants.{Success as Succeeded, Failed}
-use Rattle.host_template.specs.Calls.{succeeded, StandsAborted, fetched}
+use Rattle.host_template.specs.Calls.{succeeded, StandsAborted, StandsReset, fetched}
 use Rattle.host_template.specs.Laws.{SilentLaw}
-use Rattle.host_template.specs.Meaning.{Meaning, SameNature, IfHonest, NothingAdded, HonestAbort, HonestReset, IsFree}
+use Rattle.host_template.specs.Meaning.{Meaning, SameNature, IfHonest, NothingAdded, HonestAbort, HonestReset, Holds, IsFree}
 use Rattle.host_template.specs.Standing.{Before, Standing}
-use Rattle.trace_model.specs.Climb.{judge_again, disp_again, act_on, test_and_clear}
-use Rattle.trace_model.specs.Course.{Follows}
+use Rattle.trace_model.specs.Climb.{judge_again, disp_again, act_on, fetch_for, test_and_clear, clear}
+use Rattle.trace_model.specs.Course.{Course, over, next, Follows}
 use Rattle.trace_model.specs.Legal.{onto}
 use Rattle.eh_probe.specs.Standings.{StandsAfter, StandsFetched}
 use Rattle.escalation.specs.declared.rungs.Rung.{Rung}
 use Rattle.escalation.specs.declared.rungs.Rung.TheVariants.{FetchSense, Abort, StartUnit, ResetDevice, ResetTarget, ResetBus, ResetHost, GiveUp}
 use Rattle.escalation.specs.Rungs.{level_at, scope_at}
-use Rattle.escalation.specs.Climbing.{StandsActed, LetsGo, HonestAct}
+use Rattle.escalation.specs.Climbing.{StandsActed, AreLast, LetsGo, HonestAct}
 use Rattle.escalation.specs.Acts.{IsAct, IsTried, IsTold, GoesOn, BeginsIn, cleared, told_again, told_fetch, told_offline, is_call}
-use Rattle.escalation.proofs.Tested.{follows_in_turn, stands_cleared}
+use Rattle.escalation.proofs.Tested.{follows_in_turn, stands_cleared, onto_append}
 
 -- level 1
 

@@ -1,5 +1,5 @@
 -- The rungs of a list are its pairs.
-use Rattle.std.proofs.Common.{◌≡◌, List, [], ◌∷◌, ◌++◌, map, refl, ap, ◌∙◌, append_assoc}
+use Rattle.std.proofs.Common.{◌≡◌, ℕ, List, [], ◌∷◌, ◌++◌, map, refl, sym, ap, ◌∙◌, append_assoc}
 use Rattle.std.proofs.lemmas.List.{map-append}
 use Rattle.mid_base.specs.declared.names.DevAddr.{DevAddr}
 use Rattle.mid_base.specs.declared.answers.Scope.{Scope}

@@ -1,5 +1,5 @@
 -- A device finds its place among others.
-use Rattle.std.proofs.Common.{◌≡◌, ℕ, ◌+◌, ◌<◌, ◌≤◌, true, false, List, [], ◌∷◌, ◌++◌, take, drop, get_or, length, refl, sym, ap, ◌∙◌, ltb, append_assoc}
+use Rattle.std.proofs.Common.{◌≡◌, ℕ, ◌+◌, ◌<◌, ◌≤◌, Bool, true, false, List, [], ◌∷◌, ◌++◌, take, drop, get_or, length, reverse, refl, sym, ap, ◌∙◌, subst, ltb, arith, append_assoc}
 use Rattle.std.proofs.lemmas.List.{drop_more, take_more, take_all, drop_all}
 use Rattle.mid_base.specs.declared.names.DevAddr.{DevAddr}
 use Rattle.mid_base.specs.Address.{same_dev}

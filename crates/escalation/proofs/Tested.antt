@@ -1,5 +1,5 @@
 -- What tests of devices tell is the course of them, and the commands on ready devices are cleared.
-use Rattle.std.proofs.Common.{◌≡◌, ◌≤◌, ℕ, suc, ◌*◌, Bool, true, false, cond, List, [], ◌∷◌, ◌++◌, length, filter, refl, sym, ap, ◌∙◌, subst, ltb, ⊎_elim, Option, None, Some, arith, append_assoc}
+use Rattle.std.proofs.Common.{◌≡◌, ◌≤◌, ℕ, suc, zero, ◌+◌, ◌*◌, Bool, true, false, cond, not, ◌&&◌, List, [], ◌∷◌, ◌++◌, length, map, filter, refl, sym, ap, ◌∙◌, subst, ltb, ⊎_elim, Option, None, Some, arith, append_assoc}
 use Rattle.std.proofs.lemmas.List.{append-nil, length-append, length-map}
 use Rattle.std.proofs.lemmas.Bool.{cases_Bool}
 use Rattle.mid_base.specs.declared.names.DevAddr.{DevAddr}
@@ -21,7 +21,7 @@ use Rattle.trace_model.specs.Legal.{onto}
 use Rattle.eh_probe.specs.declared.says.Probe.{Probe}
 use Rattle.eh_probe.specs.declared.says.Probe.TheVariants.{Good, Bad}
 use Rattle.eh_probe.specs.declared.says.Tested.{Tested}
-use Rattle.eh_probe.specs.Tests.{sorted, said, IsTest, second_entry, test_entries}
+use Rattle.eh_probe.specs.Tests.{sorted, said, test_by, IsTest, second_entry, test_entries}
 use Rattle.eh_probe.specs.Standings.{StandsAfter}
 use Rattle.escalation.specs.Acts.{AreTested, Tests, GoesOn, cleared}
 

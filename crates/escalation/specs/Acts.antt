@@ -1,5 +1,5 @@
 -- What the parts of an act do. No contract of a public call cites these words.
-use Rattle.std.specs.Prelude.{◌≡◌, ℕ, ◌+◌, ◌*◌, ◌≤◌, ◌==◌, Bool, true, false, if◌then◌else◌, List, [], ◌∷◌, ◌++◌, length, map, Option, option_map, is_some, vec_capacity}
+use Rattle.std.specs.Prelude.{◌≡◌, ℕ, ◌+◌, ◌*◌, ◌≤◌, ◌==◌, Bool, true, false, if◌then◌else◌, List, [], ◌∷◌, ◌++◌, length, map, filter, Option, option_map, is_some, vec_len, vec_capacity}
 use Rattle.std.specs.List.{list_any}
 use Rattle.std.specs.List.Sorted.{IsNonDecreasing}
 use Rattle.mid_base.specs.declared.names.DevAddr.{DevAddr}
@@ -17,7 +17,7 @@ use Rattle.mid_base.specs.Codes.{request_sense}
 use Rattle.mid_base.specs.declared.host_spec.Handlers.{Handlers}
 use Rattle.mid_base.specs.Levels.{Level, fetch_sense, give_up, number, callback, can_succeed, can_fail}
 use Rattle.disposition.specs.declared.todo.Todo.{Todo}
-use Rattle.disposition.specs.Ladder.{Pair, pairs, is_in_scope, beyond, same_pair}
+use Rattle.disposition.specs.Ladder.{Pair, pairs, is_in_scope, devs, beyond, same_pair}
 use Rattle.host_template.specs.Standing.{Standing}
 use Rattle.trace_model.specs.Climb.{act_on, disp_again}
 use Rattle.trace_model.specs.Course.{Course, Follows}
@@ -25,6 +25,8 @@ use Rattle.eh_probe.specs.declared.says.Tested.{Tested}
 use Rattle.eh_probe.specs.Tests.{IsTest, test_entries}
 use Rattle.eh_probe.specs.Standings.{StandsAfter}
 use Rattle.escalation.specs.declared.testing.Told.{Told}
+use Rattle.escalation.specs.declared.rungs.Rung.{Rung}
+use Rattle.escalation.specs.Rungs.{level_at, scope_at, pair_at}
 use Rattle.escalation.specs.Climbing.{StandsActed, clears}
 use Rattle.step_laws.proofs.Ladders.{lost}
 

@@ -1,4 +1,5 @@
 -- The rungs of a ladder: each is an act that it may come to, of a level on a scope.
+use Rattle.std.specs.Prelude.{◌≡◌, ℕ, List}
 use Rattle.mid_base.specs.declared.names.DevAddr.{DevAddr}
 use Rattle.mid_base.specs.declared.answers.Scope.{Scope}
 use Rattle.mid_base.specs.declared.answers.Scope.TheVariants.{Cmd, Dev, Target, Bus, Host}

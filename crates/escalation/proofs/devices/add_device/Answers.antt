@@ -1,8 +1,8 @@
-use Rattle.std.proofs.Common.{◌≡◌, ◌≤◌, ◌<◌, ◌∙◌, length, List, [], ◌∷◌, ◌++◌, get_or, insert, lt-ltb, sym, ap, arith}
+use Rattle.std.proofs.Common.{◌≡◌, ◌≤◌, ◌<◌, ◌∙◌, Bool, true, false, length, List, [], ◌∷◌, ◌++◌, get_or, insert, ltb, lt-ltb, sym, ap, arith}
 use Rattle.std.proofs.lemmas.Grind.{common_steps}
 use Rattle.std.proofs.lemmas.List.{take-append-drop}
 use Rattle.mid_base.specs.declared.names.DevAddr.{DevAddr}
-use Rattle.disposition.specs.Ladder.{address}
+use Rattle.disposition.specs.Ladder.{address, with_dev}
 use Rattle.escalation.proofs.Places.{is_there, goes_before, at_end}
 use Rattle.escalation.proofs.devices.add_device.Goals as goal
 

@@ -1,4 +1,4 @@
-use Rattle.std.proofs.Common.{not, sym, ap}
+use Rattle.std.proofs.Common.{Bool, not, sym, ap}
 use Rattle.escalation.proofs.Cleared.{found_is, absent_is}
 use Rattle.escalation.proofs.leaving.is_left.Goals as goal
 

@@ -1,4 +1,4 @@
-use Rattle.std.proofs.Common.{sym}
+use Rattle.std.proofs.Common.{sym, ap, ◌∙◌, arith}
 use Rattle.escalation.proofs.Cleared.{told_more, told_none}
 use Rattle.escalation.proofs.leaving.take_sense.Goals as goal
 

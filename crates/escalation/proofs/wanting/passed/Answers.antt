@@ -1,7 +1,8 @@
-use Rattle.std.proofs.Common.{◌≤◌, ◌<◌, ◌+◌, ◌∙◌, Bool, cond, length, map, sym, ap, arith}
+use Rattle.std.proofs.Common.{◌≡◌, ◌≤◌, ◌<◌, ◌+◌, ◌∙◌, ℕ, Bool, cond, length, map, refl, sym, ap, arith}
+use Rattle.std.proofs.lemmas.Grind.{common_steps}
 use Rattle.std.proofs.lemmas.List.{length-map}
 use Rattle.escalation.specs.Rungs.{pair_at}
-use Rattle.escalation.proofs.Passing.{map_drop, passed_beyond, passed_step, end_from}
+use Rattle.escalation.proofs.Passing.{last_from, map_drop, passed_beyond, passed_step, end_from}
 use Rattle.escalation.proofs.wanting.passed.Goals.{then-same_rung, else-same_rung}
 use Rattle.escalation.proofs.wanting.passed.Goals as goal
 

@@ -1,4 +1,4 @@
-use Rattle.std.proofs.Common.{rules, not, ◌≡◌, ◌+◌, ◌∙◌, List, map, filter, drop, sym, ap, subst}
+use Rattle.std.proofs.Common.{rules, not, ◌≡◌, ◌≤◌, ◌+◌, ◌∙◌, List, map, filter, drop, length, sym, ap, subst, arith}
 use Rattle.std.specs.List.{list_any}
 use Rattle.std.proofs.lemmas.Fn.{filter_same}
 use Rattle.disposition.specs.declared.todo.Todo.{Todo}
