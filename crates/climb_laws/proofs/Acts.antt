@@ -25,7 +25,7 @@ use Rattle.trace_model.specs.Legal.{onto, Group}
 use Rattle.trace_model.proofs.Owes.{is_calm, act_calm}
 use Rattle.escalation.specs.Climbing.{Climb, clears, is_left, as_told, next_pair, gone_on, IsNextAct}
 use Rattle.escalation.proofs.Climbs.{next_beyond}
-use Rattle.climb_laws.specs.LadderOf.{IsLadderOf, IsActAt, is_on_list}
+use Rattle.climb_laws.specs.LadderOf.{IsLadderOf, IsActAt, LeadTo, is_on_list}
 use Rattle.climb_laws.proofs.Calm.{follows_all, Stays, stays_onto, answer_onto, cleared_onto}
 use Rattle.climb_laws.proofs.Online.{is_fit, state_onto, act_spares}
 use Rattle.climb_laws.proofs.Listed.{todos, stands, same_pairs, in_todo, told_todo}
@@ -169,7 +169,7 @@ acted_ladder s P k level scope ok rest h found n by =
       aborts = h.aborts;
     }
 
-pub goes_on : (s : HostSpec) (P : List Entry) (k : Climb) (level : ℕ) (scope : Scope) (ok : Bool) (es : List Entry) → IsActAt s P k level scope ok es → IsLadderOf s (onto es P) (gone_on (level, scope) es k)
+goes_on : (s : HostSpec) (P : List Entry) (k : Climb) (level : ℕ) (scope : Scope) (ok : Bool) (es : List Entry) → IsActAt s P k level scope ok es → IsLadderOf s (onto es P) (gone_on (level, scope) es k)
 goes_on s P k level scope ok es x =
     let h = x.ladder in
     let a = x.act in
@@ -177,19 +177,27 @@ goes_on s P k level scope ok es x =
     subst (λ (fs : List Entry). IsLadderOf s (onto fs P) (gone_on (level, scope) fs k)) (sym a.told)
     (acted_ladder s P k level scope ok a.rest h a.next n (by_rules s P k level scope ok es h a))
 
-pub is_group : (s : HostSpec) (P : List Entry) (k : Climb) (level : ℕ) (scope : Scope) (ok : Bool) (es : List Entry) → IsActAt s P k level scope ok es → Group s P es
+is_group : (s : HostSpec) (P : List Entry) (k : Climb) (level : ℕ) (scope : Scope) (ok : Bool) (es : List Entry) → IsActAt s P k level scope ok es → Group s P es
 is_group s P k level scope ok es x =
     let by = by_rules s P k level scope ok es x.ladder x.act in
     let can = subst (λ (h : Handlers). cond ok (can_succeed h (level_of level)) (can_fail (level_of level)) ≡ true) x.ladder.handlers x.act.can in
     subst (λ (fs : List Entry). Group s P fs) (sym x.act.told)
     ((and_from (is_quiet s P && has_begun P) _ (and_from (is_quiet s P) (has_begun P) x.quiet x.begun) can, by.next), by.course)
 
-pub still_begun : (s : HostSpec) (P : List Entry) (k : Climb) (level : ℕ) (scope : Scope) (ok : Bool) (es : List Entry) → IsActAt s P k level scope ok es → has_begun (onto es P) ≡ true
+still_begun : (s : HostSpec) (P : List Entry) (k : Climb) (level : ℕ) (scope : Scope) (ok : Bool) (es : List Entry) → IsActAt s P k level scope ok es → has_begun (onto es P) ≡ true
 still_begun s P k level scope ok es x =
     subst (λ (fs : List Entry). has_begun (onto fs P) ≡ true) (sym x.act.told)
     ((acted_stays s P level scope ok x.act.rest (by_rules s P k level scope ok es x.ladder x.act)).begun ∙ x.begun)
 
-pub still_failed : (s : HostSpec) (P : List Entry) (k : Climb) (level : ℕ) (scope : Scope) (ok : Bool) (es : List Entry) → IsActAt s P k level scope ok es → failed (onto es P) ≡ failed P
+still_failed : (s : HostSpec) (P : List Entry) (k : Climb) (level : ℕ) (scope : Scope) (ok : Bool) (es : List Entry) → IsActAt s P k level scope ok es → failed (onto es P) ≡ failed P
 still_failed s P k level scope ok es x =
     subst (λ (fs : List Entry). failed (onto fs P) ≡ failed P) (sym x.act.told)
     (acted_stays s P level scope ok x.act.rest (by_rules s P k level scope ok es x.ladder x.act)).failed
+
+pub leads_on : (s : HostSpec) (P : List Entry) (k : Climb) (level : ℕ) (scope : Scope) (ok : Bool) (es : List Entry) → IsActAt s P k level scope ok es → LeadTo s P es (gone_on (level, scope) es k)
+leads_on s P k level scope ok es x = record {
+  group = is_group s P k level scope ok es x;
+  ladder = goes_on s P k level scope ok es x;
+  begun = still_begun s P k level scope ok es x;
+  failed = still_failed s P k level scope ok es x;
+}

@@ -4,3 +4,4 @@ pub mod Listed
 pub mod Acts
 pub mod Begins
 pub mod Others
+pub mod Refused

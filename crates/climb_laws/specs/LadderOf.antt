@@ -12,7 +12,7 @@ use Rattle.trace_model.specs.Devices.{has_begun}
 use Rattle.trace_model.specs.Recovery.{Failure, failed, listed, todo, last_act, is_quiet}
 use Rattle.trace_model.specs.Flush.{is_empty}
 use Rattle.trace_model.specs.Rules.{is_lost}
-use Rattle.trace_model.specs.Legal.{onto}
+use Rattle.trace_model.specs.Legal.{Group, onto}
 use Rattle.escalation.specs.Climbing.{Climb, IsNextAct}
 
 -- the ladder has what the journal leaves to do, and ahead what the failed commands could want beyond the last act
@@ -36,6 +36,13 @@ pub record IsActAt (s : HostSpec) (P : List Entry) (k : Climb) (level : ℕ) (sc
   pub quiet : is_quiet s P ≡ true
   pub ladder : IsLadderOf s P k
   pub act : IsNextAct k level scope ok es
+
+-- entries that are a group by the rules lead to where a ladder stands, and no command leaves the failed list
+pub record LeadTo (s : HostSpec) (P es : List Entry) (k : Climb) : Type 0 where
+  pub group : Group s P es
+  pub ladder : IsLadderOf s (onto es P) k
+  pub begun : has_begun (onto es P) ≡ true
+  pub failed : failed (onto es P) ≡ failed P
 
 -- the command is on the failed list
 abbrev pub is_on_list : ℕ → List Failure → Bool

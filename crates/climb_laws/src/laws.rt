@@ -1,4 +1,4 @@
-ghost use Rattle.std.specs.Prelude.{◌≡◌, ℕ, Bool, true, List, [], ◌∷◌};
+ghost use Rattle.std.specs.Prelude.{◌≡◌, ℕ, Bool, true, false, List, [], ◌∷◌};
 ghost use Rattle.mid_base.specs.declared.answers.Answer.{Answer};
 ghost use Rattle.mid_base.specs.declared.answers.Scope.{Scope};
 ghost use Rattle.mid_base.specs.declared.entries.Entry.{Entry};
@@ -7,10 +7,11 @@ ghost use Rattle.mid_base.specs.declared.host_spec.HostSpec.{HostSpec};
 ghost use Rattle.mid_base.specs.declared.names.CmdId.{CmdId};
 ghost use Rattle.trace_model.specs.Devices.{has_begun};
 ghost use Rattle.trace_model.specs.Flush.{is_empty};
-ghost use Rattle.trace_model.specs.Legal.{Group, onto};
-ghost use Rattle.trace_model.specs.Recovery.{failed, listed, todo, may_begin, next_act};
+ghost use Rattle.trace_model.specs.Legal.{EachStands, Group};
+ghost use Rattle.trace_model.specs.Recovery.{failed, listed, todo, may_begin, next_act, is_quiet};
+ghost use Rattle.trace_model.specs.Sending.{is_refused};
 ghost use Rattle.escalation.specs.Climbing.{Climb, begun, online_alone, next_pair, gone_on};
-ghost use Rattle.climb_laws.specs.LadderOf.{IsLadderOf, IsActAt, LeavesList, begun_at, lost_cleared};
+ghost use Rattle.climb_laws.specs.LadderOf.{IsLadderOf, IsActAt, LeadTo, LeavesList, begun_at, is_on_list, lost_cleared};
 
 // Here P is what a journal holds, the newest entry first.
 
@@ -26,11 +27,8 @@ pub fn a_ladder_begins_with_recovery()
 /// The entries that tell the next act of a ladder are a group that the rules allow, and the ladder after it stands where they
 /// lead.
 pub fn a_ladder_acts_by_the_rules()
-    ensures ladder { (s : HostSpec) (P : List Entry) (k : Climb) (level : ℕ) (scope : Scope) (ok : Bool) (es : List Entry) → IsActAt s P k level scope ok es
-        → IsLadderOf s (onto es P) (gone_on (level, scope) es k) }
-    ensures group { (s : HostSpec) (P : List Entry) (k : Climb) (level : ℕ) (scope : Scope) (ok : Bool) (es : List Entry) → IsActAt s P k level scope ok es → Group s P es }
-    ensures begun { (s : HostSpec) (P : List Entry) (k : Climb) (level : ℕ) (scope : Scope) (ok : Bool) (es : List Entry) → IsActAt s P k level scope ok es → has_begun (onto es P) ≡ true }
-    ensures failed { (s : HostSpec) (P : List Entry) (k : Climb) (level : ℕ) (scope : Scope) (ok : Bool) (es : List Entry) → IsActAt s P k level scope ok es → failed (onto es P) ≡ failed P }
+    ensures { (s : HostSpec) (P : List Entry) (k : Climb) (level : ℕ) (scope : Scope) (ok : Bool) (es : List Entry) → IsActAt s P k level scope ok es
+        → LeadTo s P es (gone_on (level, scope) es k) }
 {}
 
 /// A ladder that stands at a journal does its next act, and has nothing left exactly where nothing is to be done.
@@ -44,8 +42,20 @@ pub fn other_entries_keep_the_ladder()
     ensures { (s : HostSpec) (P : List Entry) (k : Climb) (e : Entry) → LeavesList P e → IsLadderOf s P k → IsLadderOf s (e ∷ P) k }
 {}
 
+/// While recovery goes on each busy command is failed, as an act wants it.
+pub fn recovery_is_quiet()
+    ensures { (s : HostSpec) (P : List Entry) → EachStands s P → has_begun P ≡ true → is_quiet s P ≡ true }
+{}
+
+/// A command that is told as it is handed in isn't on the failed list.
+pub fn refused_commands_have_not_failed()
+    ensures { (s : HostSpec) (P : List Entry) (c : ℕ) → EachStands s P → is_refused s P c ≡ true → is_on_list c (failed P) ≡ false }
+{}
+
 /// Where nothing is left to do, the flush of a command leaves the ladder where it stands.
 pub fn a_flush_keeps_the_ladder()
-    ensures again { (s : HostSpec) (P : List Entry) (k : Climb) (c : CmdId) (counted : Bool) → todo s P ≡ [] → IsLadderOf s P k → IsLadderOf s (Again c counted ∷ P) k }
-    ensures told { (s : HostSpec) (P : List Entry) (k : Climb) (c : CmdId) (a : Answer) → todo s P ≡ [] → IsLadderOf s P k → IsLadderOf s (Told c a ∷ P) k }
+    ensures again { (s : HostSpec) (P : List Entry) (k : Climb) (c : CmdId) (counted : Bool) → todo s P ≡ [] → IsLadderOf s P k
+        → IsLadderOf s (Again c counted ∷ P) k }
+    ensures told { (s : HostSpec) (P : List Entry) (k : Climb) (c : CmdId) (a : Answer) → todo s P ≡ [] → IsLadderOf s P k
+        → IsLadderOf s (Told c a ∷ P) k }
 {}
