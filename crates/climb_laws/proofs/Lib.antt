@@ -5,3 +5,5 @@ pub mod Acts
 pub mod Begins
 pub mod Others
 pub mod Refused
+pub mod Known
+pub mod Lasts

@@ -10,7 +10,7 @@ ghost use Rattle.trace_model.specs.Flush.{is_empty};
 ghost use Rattle.trace_model.specs.Legal.{EachStands, Group};
 ghost use Rattle.trace_model.specs.Recovery.{failed, listed, todo, may_begin, next_act, is_quiet};
 ghost use Rattle.trace_model.specs.Sending.{is_refused};
-ghost use Rattle.escalation.specs.Climbing.{Climb, begun, online_alone, next_pair, gone_on};
+ghost use Rattle.escalation.specs.Climbing.{AreLast, Climb, begun, online_alone, next_pair, gone_on};
 ghost use Rattle.climb_laws.specs.LadderOf.{IsLadderOf, IsActAt, LeadTo, LeavesList, begun_at, is_on_list, lost_cleared};
 
 // Here P is what a journal holds, the newest entry first.
@@ -50,6 +50,11 @@ pub fn recovery_is_quiet()
 /// A command that is told as it is handed in isn't on the failed list.
 pub fn refused_commands_have_not_failed()
     ensures { (s : HostSpec) (P : List Entry) (c : ℕ) → EachStands s P → is_refused s P c ≡ true → is_on_list c (failed P) ≡ false }
+{}
+
+/// The attempts of a ladder's commands are the last of each, on its device: so the lower layer stands where the acts lead.
+pub fn a_ladder_has_last_attempts()
+    ensures { (s : HostSpec) (P : List Entry) (k : Climb) → EachStands s P → IsLadderOf s P k → AreLast s P k.left }
 {}
 
 /// Where nothing is left to do, the flush of a command leaves the ladder where it stands.

@@ -9,6 +9,6 @@ mod laws;
 
 pub use laws::{
     a_flush_keeps_the_ladder, a_ladder_acts_by_the_rules, a_ladder_begins_with_recovery,
-    a_ladder_does_the_next_act_of_its_journal, other_entries_keep_the_ladder, recovery_is_quiet,
-    refused_commands_have_not_failed,
+    a_ladder_does_the_next_act_of_its_journal, a_ladder_has_last_attempts,
+    other_entries_keep_the_ladder, recovery_is_quiet, refused_commands_have_not_failed,
 };
