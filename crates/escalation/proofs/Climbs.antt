@@ -1,13 +1,13 @@
 -- What an act leaves of a ladder, and that a command that is left always has an act ahead.
-use Rattle.std.proofs.Common.{eq-eqb, ◌≡◌, ◌≤◌, ◌⊎◌, ℕ, suc, zero, ◌+◌, ◌*◌, ◌==◌, Bool, true, false, cond, not, ◌&&◌, ◌||◌, List, [], ◌∷◌, ◌++◌, length, map, filter, find, drop, refl, sym, ap, ◌∙◌, subst, inl, inr, ⊎_elim, Option, None, Some, arith, append_assoc}
+use Rattle.std.proofs.Common.{eq-eqb, ◌≡◌, ◌≤◌, ℕ, suc, ◌+◌, ◌*◌, ◌==◌, Bool, true, false, cond, not, ◌&&◌, List, [], ◌∷◌, ◌++◌, length, map, filter, find, refl, sym, ap, ◌∙◌, subst, ⊎_elim, Option, None, Some, arith, append_assoc}
 use Rattle.std.specs.List.{list_any}
-use Rattle.std.proofs.lemmas.Bool.{cases_Bool, and_parts, and_from, or_left, or_right}
+use Rattle.std.proofs.lemmas.Bool.{cases_Bool, and_from, or_left, or_right}
 use Rattle.std.proofs.lemmas.Option.{none-some, same_Some}
 use Rattle.mid_base.specs.declared.names.DevAddr.{DevAddr}
 use Rattle.mid_base.specs.declared.answers.Scope.{Scope}
 use Rattle.mid_base.specs.declared.answers.Scope.TheVariants.{Cmd, Dev, Target, Bus, Host}
 use Rattle.mid_base.specs.declared.entries.Entry.{Entry}
-use Rattle.mid_base.specs.declared.entries.Entry.TheVariants.{Act, Cleared, Offline}
+use Rattle.mid_base.specs.declared.entries.Entry.TheVariants.{Act}
 use Rattle.mid_base.specs.declared.host_spec.Handlers.{Handlers}
 use Rattle.mid_base.specs.declared.host_spec.HostSpec.{HostSpec}
 use Rattle.mid_base.specs.Address.{same_dev}
@@ -16,14 +16,14 @@ use Rattle.disposition.specs.declared.todo.Todo.{Todo}
 use Rattle.disposition.specs.Ladder.{Pair, pairs, devs, is_in_scope, is_of_kind, is_wanted_pair, same_scope, same_pair, beyond_pair, beyond}
 use Rattle.host_template.specs.Meaning.{Meaning, IfHonest}
 use Rattle.host_template.specs.Standing.{Standing}
-use Rattle.trace_model.specs.Climb.{act_on, offline_for, climb}
-use Rattle.trace_model.specs.Course.{Course, over, in_turn, Follows}
+use Rattle.trace_model.specs.Climb.{act_on, offline_for}
+use Rattle.trace_model.specs.Course.{over, in_turn, Follows}
 use Rattle.step_laws.proofs.Places.{same_dev_is, same_dev_itself}
-use Rattle.step_laws.proofs.Ladders.{lost, lost_in, same_lost, stays_beyond, some_next, with_there, with_stays}
+use Rattle.step_laws.proofs.Ladders.{lost, lost_in, stays_beyond, some_next, with_there, with_stays}
 use Rattle.escalation.specs.declared.rungs.Rung.{Rung}
 use Rattle.escalation.specs.declared.rungs.Rung.TheVariants.{FetchSense, Abort, StartUnit, ResetDevice, ResetTarget, ResetBus, ResetHost, GiveUp}
 use Rattle.escalation.specs.Rungs.{level_at, scope_at, pair_at}
-use Rattle.escalation.specs.Climbing.{Climb, clears, is_left, as_told, gone_on, next_pair, IsNextAct, AreLast, StandsActed, HonestAct}
+use Rattle.escalation.specs.Climbing.{Climb, clears, is_left, as_told, next_pair, IsNextAct, AreLast, StandsActed, HonestAct}
 use Rattle.escalation.specs.Acts.{IsAct, BeginsIn, AreAhead, IsClimbing, cleared}
 
 pub level_again : (r : Rung) → level_of (number (level_at r)) ≡ level_at r
@@ -146,6 +146,15 @@ none_left aborts [] ahead h e = refl
 none_left aborts (x ∷ xs) ahead h e =
     let some = some_next (is_wanted_pair aborts (x ∷ xs)) x.dev ahead (last_wanted aborts (x ∷ xs) [] xs x refl) h.covers.0 in
     absurd (none-some some.0 (sym e ∙ some.1))
+
+-- fewer commands, over the same acts
+pub kept_climbing : (keep : Todo → Bool) (left : List Todo) (ahead : List Pair) → IsClimbing left ahead → IsClimbing (filter keep left) ahead
+kept_climbing keep left ahead h = record {
+  all = h.all;
+  last = h.last;
+  above = h.above;
+  covers = cover ahead keep left (λ pre post x is kept. covered ahead pre post x (subst (λ (zs : List Todo). AreAhead ahead zs) is h.covers)) [] left refl;
+}
 
 -- an act of the last level clears each command of its device
 

@@ -61,6 +61,10 @@ as_told entries x = record { cmd = x.cmd; n = x.n; dev = x.dev; cancelled = x.ca
 abbrev pub gone_on : Pair → List Entry → Climb → Climb
 gone_on p entries k = record { left = map (as_told entries) (filter (is_left entries) k.left); ahead = beyond_pair p k.ahead; handlers = k.handlers; aborts = k.aborts }
 
+-- the ladder without the commands whose device isn't online
+abbrev pub online_alone : Climb → Climb
+online_alone k = record { left = filter (λ x. x.cx.online) k.left; ahead = k.ahead; handlers = k.handlers; aborts = k.aborts }
+
 -- these entries tell the next act: it may have come out so, and what follows it is its course
 pub record IsNextAct (k : Climb) (level : ℕ) (scope : Scope) (ok : Bool) (entries : List Entry) : Type 0 where
   pub next : next_pair k ≡ Some (level, scope)

@@ -3,7 +3,7 @@ ghost use Rattle.host_template.specs.Meaning.{SameNature};
 ghost use Rattle.disposition.specs.Ladder.{is_in_scope, beyond_pair};
 ghost use Rattle.escalation.specs.Rungs.{pair_at};
 ghost use Rattle.escalation.specs.Acts.{IsClimbing, AreCleared};
-ghost use Rattle.escalation.specs.Climbing.{begun, next_pair, gone_on, is_left as is_left_seen, as_told as as_told_seen, Climbs, StandsClimbed, HonestClimbed, IsIdle};
+ghost use Rattle.escalation.specs.Climbing.{begun, online_alone, next_pair, gone_on, is_left as is_left_seen, as_told as as_told_seen, Climbs, StandsClimbed, HonestClimbed, IsIdle};
 
 use crate::Acted;
 use crate::acts::perform;
@@ -62,6 +62,13 @@ impl Ladder {
         ensures { result.now ≡ self.now.left }
     {
         &self.left
+    }
+
+    /// The commands whose device isn't online are left out: recovery does nothing for them (level 0).
+    pub fn leave_offline(&mut self)
+        ensures { self.new ≡ online_alone self.old }
+    {
+        self.left.retain(|x| x.cx.online);
     }
 
     /// Performs the next act, and gives the entries that tell it; of so many commands as are left there are at most three

@@ -1,0 +1,9 @@
+pub mod Calm
+pub mod Online
+pub mod Listed
+pub mod Acts
+pub mod Begins
+pub mod Others
+pub mod Refused
+pub mod Known
+pub mod Lasts
