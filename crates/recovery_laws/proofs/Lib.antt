@@ -1,0 +1,4 @@
+pub mod Quiet
+pub mod Sent
+pub mod Known
+pub mod Busy

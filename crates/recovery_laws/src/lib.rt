@@ -1,0 +1,11 @@
+//! What a legal journal has of recovery, by its definitions alone.
+#![tactic(auto)]
+
+mod begun;
+mod failures;
+
+pub use begun::{nothing_else_is_under_way, recovery_begins_in_quiet};
+pub use failures::{
+    each_failed_attempt_is_the_last_of_its_command, failed_commands_are_busy,
+    the_todo_list_has_last_attempts,
+};
