@@ -50,11 +50,14 @@ newer s c P d m t each = ⊎_elim
     clash : (m a k : ℕ) → m ≡ a → m ≡ k + 1 → a ≤ k → ⊥
     clash m a k e f h = omega (arith, e, f, h)
 
+still_sent : (c : ℕ) (P : List Entry) (d : CmdId) (m : Attempt) (t : Tag) → attempt_of c (Sent d m t ∷ P) ≡ attempt_of c P → (m.0 == attempt_of c P) ≡ false → WasSent c P → WasSent c (Sent d m t ∷ P)
+still_sent c P d m t same new h = subst (λ (k : ℕ). (was_sent k (Sent d m t ∷ P) ≡ true) × (sent_for k (Sent d m t ∷ P) ≡ c)) (sym same) (rw new h)
+
 pub busy_sent : (s : HostSpec) (c : ℕ) (P : List Entry) → EachStands s P → is_busy (standing c P) ≡ true → WasSent c P
 busy_sent s c [] each b = cc b
 busy_sent s c (Sent d m t ∷ P) each b = ⊎_elim
     (λ yes. rw (yes.0, eq-eqb m.0 m.0 refl) (refl, yes.1))
-    (λ no. let new = newer s c P d m t each in rw no.0 (rw new (busy_sent s c P each.1 (rw no.0 at b))))
+    (λ no. still_sent c P d m t (rw no.0 refl) (newer s c P d m t each) (busy_sent s c P each.1 (rw no.0 at b)))
     (eqb_tells d.0 c)
 busy_sent s c (Took d ∷ P) each b = ⊎_elim (λ yes. absurd (cc (rw yes.0 at b))) (λ no. busy_sent s c P each.1 (rw no.0 at b)) (eqb_tells d.0 c)
 busy_sent s c (Bounced d m why ∷ P) each b = ⊎_elim (λ yes. absurd (cc (rw yes.0 at b))) (λ no. busy_sent s c P each.1 (rw no.0 at b)) (eqb_tells d.0 c)
