@@ -2,3 +2,7 @@ pub mod Quiet
 pub mod Sent
 pub mod Known
 pub mod Busy
+pub mod Owing
+pub mod Listed
+pub mod Fetched
+pub mod Courses
