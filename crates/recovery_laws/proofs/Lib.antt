@@ -6,3 +6,6 @@ pub mod Owing
 pub mod Listed
 pub mod Fetched
 pub mod Courses
+pub mod Expired
+pub mod Owned
+pub mod Verdicts

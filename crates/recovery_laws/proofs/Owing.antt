@@ -13,7 +13,7 @@ use Rattle.trace_model.specs.Recovery.{Failure, failed}
 use Rattle.trace_model.proofs.Owes.{Owes, meets_owes, after_owes}
 use Rattle.recovery_laws.specs.Taken.{has_failed, moves_no_depth, Takes, AreTaken}
 
-owes_map : (Q R : Entry → Type 0) → ((e : Entry) → Q e → R e) → (k : Course) → Owes Q k → Owes R k
+pub owes_map : (Q R : Entry → Type 0) → ((e : Entry) → Q e → R e) → (k : Course) → Owes Q k → Owes R k
 owes_map Q R f over h = tt
 owes_map Q R f (next x k) h = (f x h.0, owes_map Q R f k h.1)
 owes_map Q R f (ask d code want k) h = (λ say. f (Probe d code say) (h.0 say), λ say. owes_map Q R f (k say) (h.1 say))

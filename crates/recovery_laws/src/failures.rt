@@ -4,7 +4,7 @@ ghost use Rattle.mid_base.specs.declared.host_spec.HostSpec.{HostSpec};
 ghost use Rattle.escalation.specs.Climbing.{IsLast, AreLast};
 ghost use Rattle.trace_model.specs.Legal.{EachStands};
 ghost use Rattle.trace_model.specs.Recovery.{Failure, failed, todo, todo_of, listed};
-ghost use Rattle.recovery_laws.specs.Failed.{IsBusyWith};
+ghost use Rattle.recovery_laws.specs.Failed.{AreOwned, IsBusyWith};
 ghost use Rattle.recovery_laws.specs.Taken.{has_failed};
 
 // Here P is what a journal holds, the newest entry first.
@@ -23,4 +23,9 @@ pub fn each_failed_attempt_is_the_last_of_its_command()
 pub fn the_todo_list_has_last_attempts()
     ensures all { (s : HostSpec) (P : List Entry) → EachStands s P → AreLast s P (listed s P) }
     ensures left { (s : HostSpec) (P : List Entry) → EachStands s P → AreLast s P (todo s P) }
+{}
+
+/// A failed attempt is owned by its expiry where it was cancelled, and by its answer, of which there is one, where it wasn't.
+pub fn each_failed_attempt_was_lost_or_answered()
+    ensures { (s : HostSpec) (P : List Entry) → EachStands s P → AreOwned P (failed P) }
 {}
