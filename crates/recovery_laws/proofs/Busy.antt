@@ -1,20 +1,18 @@
 -- A failed command is busy with its last attempt.
-use Rattle.std.proofs.Common.{eq-eqb, ◌≡◌, ℕ, ◌==◌, Bool, true, false, not, ◌&&◌, ◌||◌, map, filter, List, [], ◌∷◌, refl, sym, ◌∙◌, subst, ap, ⊎_elim, is_some, Option, Some}
+use Rattle.std.proofs.Common.{eq-eqb, ◌≡◌, ℕ, ◌==◌, Bool, true, false, not, ◌&&◌, map, filter, List, [], ◌∷◌, refl, sym, ◌∙◌, subst, ap, ⊎_elim, is_some, Option}
 use Rattle.std.proofs.lemmas.Bool.{cases_Bool, and_from, or_right, or_left}
-use Rattle.mid_base.specs.declared.names.Attempt.{Attempt}
-use Rattle.mid_base.specs.declared.names.DevAddr.{DevAddr}
 use Rattle.mid_base.specs.declared.entries.Entry.{Entry}
 use Rattle.mid_base.specs.declared.host_spec.CmdSpec.{CmdSpec}
 use Rattle.mid_base.specs.declared.host_spec.HostSpec.{HostSpec}
-use Rattle.mid_base.specs.Past.{attempt_of, was_sent, sent_for, find_command}
+use Rattle.mid_base.specs.Past.{was_sent, sent_for}
 use Rattle.disposition.specs.declared.todo.Todo.{Todo}
 use Rattle.trace_model.specs.declared.standing.Standing.TheVariants.{Busy}
-use Rattle.trace_model.specs.Attempts.{is_open, owner, is_settled}
+use Rattle.trace_model.specs.Attempts.{owner, is_settled}
 use Rattle.trace_model.specs.Commands.{standing, is_busy}
 use Rattle.trace_model.specs.Legal.{EachStands}
-use Rattle.trace_model.specs.Names.{dev_of, or_no_command}
+use Rattle.trace_model.specs.Names.{or_no_command}
 use Rattle.trace_model.specs.Recovery.{Failure, failed, todo_of, listed, todo, is_cleared}
-use Rattle.trace_model.proofs.Stage.{Stage, idle, out, owned, failing, stage, unsettled, has_failure}
+use Rattle.trace_model.proofs.Stage.{failing, stage}
 use Rattle.trace_model.proofs.OnceMore.{held_all, busy_now, false_of}
 use Rattle.escalation.specs.Climbing.{IsLast, AreLast}
 use Rattle.step_laws.proofs.Rests.{Runs, rests}

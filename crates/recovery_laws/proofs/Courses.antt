@@ -1,5 +1,5 @@
 -- The course of the next act is taken.
-use Rattle.std.proofs.Common.{◌≡◌, ℕ, Bool, true, false, cond, filter, List, [], ◌∷◌, Some, refl}
+use Rattle.std.proofs.Common.{◌≡◌, ℕ, Bool, true, false, filter, List, [], ◌∷◌, Some, refl}
 use Rattle.mid_base.specs.Levels.{Level, fetch_sense, abort, start_unit, reset_device, reset_target, reset_bus, reset_host, give_up, not_online, no_level, level_of}
 use Rattle.mid_base.specs.Limits.{KeepsLimits}
 use Rattle.mid_base.specs.declared.answers.Disp.{Disp}
@@ -20,7 +20,7 @@ use Rattle.trace_model.specs.Rules.{course, is_lost}
 use Rattle.trace_model.proofs.Owes.{Owes, either}
 use Rattle.recovery_laws.specs.Taken.{has_failed, moves_no_depth, Takes, AreTaken}
 use Rattle.recovery_laws.proofs.Owing.{owes_behind, follows_taken}
-use Rattle.recovery_laws.proofs.Listed.{IsListed, AreListed, some_listed, todo_listed}
+use Rattle.recovery_laws.proofs.Listed.{AreListed, some_listed, todo_listed}
 use Rattle.recovery_laws.proofs.Fetched.{AreFetched, act_fetched}
 
 clear_owes : (s : HostSpec) (P : List Entry) (level : ℕ) (xs : List Todo) → Owes (Takes s P) (clear level xs)

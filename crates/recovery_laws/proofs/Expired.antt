@@ -1,5 +1,5 @@
 -- Where a cancelled attempt failed, its expiry owns it.
-use Rattle.std.proofs.Common.{eq-eqb, ◌≡◌, ◌⊎◌, inl, inr, ℕ, ◌==◌, Bool, true, false, not, ◌&&◌, cond, filter, List, [], ◌∷◌, ◌++◌, Option, None, Some, refl, sym, ◌∙◌, subst, ⊎_elim}
+use Rattle.std.proofs.Common.{◌≡◌, ◌⊎◌, ℕ, ◌==◌, Bool, true, false, not, ◌&&◌, cond, filter, List, [], ◌∷◌, ◌++◌, Option, None, Some, refl, subst, ⊎_elim}
 use Rattle.std.specs.List.{list_all}
 use Rattle.std.proofs.lemmas.Bool.{eqb-true, cases_Bool, and_parts, and_from}
 use Rattle.std.proofs.lemmas.Bool.Decides.{eqb_tells}
@@ -17,7 +17,7 @@ use Rattle.mid_base.specs.declared.names.Attempt.{Attempt}
 use Rattle.trace_model.specs.Attempts.{owner, is_by_expiry, is_settled, answer}
 use Rattle.trace_model.specs.Commands.{aborts}
 use Rattle.trace_model.specs.Course.{Course, over, next, ask, fetch, Meets, after}
-use Rattle.trace_model.specs.Judging.{to_abort, has_abort_left, is_first, may_retry}
+use Rattle.trace_model.specs.Judging.{to_abort, is_first, may_retry}
 use Rattle.trace_model.specs.Legal.{goes_on, owed, Stands, EachStands}
 use Rattle.trace_model.specs.Recovery.{Failure, failed}
 use Rattle.trace_model.specs.Rules.{Allowed, course, judged}

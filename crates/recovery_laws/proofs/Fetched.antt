@@ -18,7 +18,7 @@ use Rattle.trace_model.specs.Recovery.{failed, listed, todo, last_act, next_act}
 use Rattle.trace_model.proofs.Backed.{is_cmd, found_apt, from_apt, pairs_apt, level_one}
 use Rattle.recovery_laws.specs.Taken.{has_failed, moves_no_depth}
 use Rattle.recovery_laws.proofs.Busy.{failed_busy}
-use Rattle.recovery_laws.proofs.Listed.{IsListed, AreListed}
+use Rattle.recovery_laws.proofs.Listed.{AreListed}
 
 lacking_moves : (o : Option Answer) → wants_sense o ≡ true → moves_no_depth o ≡ true
 lacking_moves None h = refl
@@ -41,9 +41,11 @@ lacking s P aborts c all [] h w = cc w
 lacking s P aborts c all (x ∷ xs) h w = ⊎_elim
     (λ yes.
     let parts = and_parts (x.cmd.0 == c.0) (not x.cancelled && wants_sense x.answer) yes in
-    let kind = and_parts (not x.cancelled) (wants_sense x.answer) parts.1 in
-    (x.n.0, subst (λ (k : ℕ). has_failed k x.n.0 (failed P) ≡ true) (eqb-true x.cmd.0 c.0 parts.0) h.0.fails,
-      subst (λ (o : Option Answer). wants_sense o ≡ true) (h.0.same_answer (not-true x.cancelled kind.0)) kind.1))
+    let kind = and_parts (not x.cancelled) (wants_sense x.answer) parts.1 in (
+      x.n.0,
+      subst (λ (k : ℕ). has_failed k x.n.0 (failed P) ≡ true) (eqb-true x.cmd.0 c.0 parts.0) h.0.fails,
+      subst (λ (o : Option Answer). wants_sense o ≡ true) (h.0.same_answer (not-true x.cancelled kind.0)) kind.1,
+    ))
     (λ no. lacking s P aborts c all xs h.1 (rw no at w))
     (cases_Bool (is_in_scope (Cmd c) x && is_of_kind aborts fetch_sense all x))
 

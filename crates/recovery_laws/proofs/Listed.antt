@@ -1,10 +1,9 @@
 -- What the list of recovery says of a command is so, and its device is the host's.
-use Rattle.std.proofs.Common.{eq-eqb, ◌≡◌, ℕ, ◌==◌, Bool, true, false, not, ◌&&◌, ◌||◌, cond, map, filter, find, List, [], ◌∷◌, refl, sym, ◌∙◌, subst, ⊎_elim, Option, None, Some}
-use Rattle.std.specs.List.{list_any, list_all}
+use Rattle.std.proofs.Common.{eq-eqb, ◌≡◌, ℕ, ◌==◌, Bool, true, false, not, ◌&&◌, map, filter, find, List, [], ◌∷◌, refl, subst, ⊎_elim, Some}
+use Rattle.std.specs.List.{list_all}
 use Rattle.std.proofs.lemmas.Bool.{cases_Bool, and_parts, and_from, or_right, or_left}
 use Rattle.std.proofs.lemmas.Option.{none-some, same_Some}
 use Rattle.mid_base.specs.Address.{has_dev}
-use Rattle.mid_base.specs.Bytes.{cdb_list}
 use Rattle.mid_base.specs.Limits.{KeepsLimits, is_command}
 use Rattle.mid_base.specs.declared.names.DevAddr.{DevAddr}
 use Rattle.mid_base.specs.declared.entries.Entry.{Entry}
@@ -16,7 +15,6 @@ use Rattle.trace_model.specs.Attempts.{answer}
 use Rattle.trace_model.specs.Legal.{EachStands}
 use Rattle.trace_model.specs.Names.{dev_of}
 use Rattle.trace_model.specs.Recovery.{Failure, failed, todo_of, listed, todo, is_cleared}
-use Rattle.recovery_laws.specs.Failed.{IsBusyWith}
 use Rattle.recovery_laws.specs.Taken.{has_failed}
 use Rattle.recovery_laws.proofs.Busy.{failed_busy}
 

@@ -1,5 +1,5 @@
 -- Each failed attempt is owned by its expiry or by its answer.
-use Rattle.std.proofs.Common.{◌≡◌, ℕ, Bool, true, false, cond, List, [], ◌∷◌, Option, None, Some, refl, is_some}
+use Rattle.std.proofs.Common.{◌≡◌, Bool, true, false, cond, List, [], ◌∷◌, Option, None, Some, refl}
 use Rattle.mid_base.specs.declared.answers.By.{By}
 use Rattle.mid_base.specs.declared.answers.By.TheVariants.{Answer as ByAnswer, Expiry as ByExpiry}
 use Rattle.mid_base.specs.declared.entries.Entry.{Entry}
@@ -9,7 +9,7 @@ use Rattle.trace_model.specs.Legal.{EachStands}
 use Rattle.trace_model.specs.Recovery.{Failure, failed}
 use Rattle.trace_model.proofs.Backed.{owner_in, Backs, owed_backed}
 use Rattle.step_laws.proofs.Settles.{owned_answer}
-use Rattle.recovery_laws.specs.Failed.{IsOwned, AreOwned}
+use Rattle.recovery_laws.specs.Failed.{AreOwned}
 use Rattle.recovery_laws.proofs.Expired.{HaveExpired, all_expired}
 
 by_answer : (o : Option By) → is_by_answer o ≡ true → o ≡ Some ByAnswer

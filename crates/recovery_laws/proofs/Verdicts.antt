@@ -1,5 +1,5 @@
 -- What a flushed command is told, and whether it goes again.
-use Rattle.std.proofs.Common.{eq-eqb, ◌≡◌, ℕ, ◌==◌, Bool, true, false, not, ◌&&◌, ◌||◌, cond, map, filter, List, [], ◌∷◌, refl, sym, ◌∙◌, ap, subst, ⊎_elim, is_some, Option, None, Some}
+use Rattle.std.proofs.Common.{eq-eqb, ◌≡◌, ℕ, ◌==◌, Bool, true, false, not, ◌&&◌, cond, map, filter, List, [], ◌∷◌, refl, sym, ◌∙◌, ap, subst, ⊎_elim, is_some, Option, None, Some}
 use Rattle.std.proofs.lemmas.Bool.{eqb-true, cases_Bool, and_parts, and_from, not-false, or_left}
 use Rattle.mid_base.specs.Past.{attempt_of}
 use Rattle.mid_base.specs.declared.answers.Answer.{Answer}
@@ -10,7 +10,6 @@ use Rattle.mid_base.specs.declared.entries.Entry.TheVariants.{Cleared}
 use Rattle.mid_base.specs.declared.host_spec.HostSpec.{HostSpec}
 use Rattle.disposition.specs.declared.todo.Todo.{Todo}
 use Rattle.done_flush.specs.Verdict.{flush, told}
-use Rattle.done_flush.specs.declared.flush.Flush.{Flush}
 use Rattle.done_flush.specs.declared.flush.Flush.TheVariants as flushed
 use Rattle.trace_model.specs.Attempts.{answer, owner}
 use Rattle.trace_model.specs.Commands.{judgement, retries}
@@ -20,10 +19,9 @@ use Rattle.trace_model.specs.Judging.{may_retry}
 use Rattle.trace_model.specs.Legal.{EachStands}
 use Rattle.trace_model.specs.Names.{command, dev_of}
 use Rattle.trace_model.specs.Recovery.{Failure, failed, todo, todo_of, is_cleared}
-use Rattle.trace_model.proofs.Stage.{stage, failing}
 use Rattle.trace_model.proofs.OnceMore.{held_all}
 use Rattle.step_laws.proofs.Clears.{was_cleared, last_cleared}
-use Rattle.recovery_laws.specs.Failed.{IsBusyWith, IsOwned, AreOwned, last_answer}
+use Rattle.recovery_laws.specs.Failed.{IsOwned, AreOwned, last_answer}
 use Rattle.recovery_laws.specs.Taken.{has_failed}
 use Rattle.recovery_laws.proofs.Busy.{failed_busy}
 use Rattle.recovery_laws.proofs.Owned.{failed_owned}
@@ -78,5 +76,5 @@ flushed_saved s P c f fs each h e = ap (λ (n : ℕ). not (was_success (judgemen
 
 pub flushed_flush : (s : HostSpec) (P : List Entry) (c : ℕ) (f : Failure) (fs : List Failure) → EachStands s P → is_flushed s P c ≡ true → failed P ≡ f ∷ fs
     → flush (command s c) (retries c P) (state s (dev_of s c) P) (last_answer P f) (was_success (judgement f.attempt.0 P))
-      ≡ cond (is_saved s P c) flushed.Again (flushed.Told (told (last_answer P f)))
+    ≡ cond (is_saved s P c) flushed.Again (flushed.Told (told (last_answer P f)))
 flushed_flush s P c f fs each h e = ap (λ (b : Bool). cond b flushed.Again (flushed.Told (told (last_answer P f)))) (sym (flushed_saved s P c f fs each h e))

@@ -24,5 +24,5 @@ pub fn a_flushed_command_is_told_its_last_answer()
         → is_saved s P c ≡ (not (was_success (judgement f.attempt.0 P)) && may_retry s P c) }
     ensures flushes { (s : HostSpec) (P : List Entry) (c : ℕ) (f : Failure) (fs : List Failure) → EachStands s P → is_flushed s P c ≡ true → failed P ≡ f ∷ fs
         → flush (command s c) (retries c P) (state s (dev_of s c) P) (last_answer P f) (was_success (judgement f.attempt.0 P))
-            ≡ (if is_saved s P c then flushed.Again else flushed.Told (told (last_answer P f))) }
+        ≡ (if is_saved s P c then flushed.Again else flushed.Told (told (last_answer P f))) }
 {}

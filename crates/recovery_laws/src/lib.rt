@@ -1,4 +1,9 @@
 //! What a legal journal has of recovery, by its definitions alone.
+//!
+//! Recovery works on what the journal's past has made of each command. These laws say what that is: while it goes on nothing
+//! else is under way (`begun`); a failed command is busy with its last attempt, which its expiry or its answer owns
+//! (`failures`); what an act makes owed speaks of failed commands and of devices of the host alone (`acting`); and what the
+//! flush tells a command, or whether it goes again, is by that attempt (`flushing`).
 #![tactic(auto)]
 
 mod acting;
