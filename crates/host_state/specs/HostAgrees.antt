@@ -15,7 +15,6 @@ use Rattle.mid_base.specs.Past.{ticks, sent_for}
 use Rattle.trace_model.specs.declared.standing.Standing.TheVariants.{New, Busy}
 use Rattle.trace_model.specs.Commands.{standing}
 use Rattle.failure_table.specs.FailuresAgree.{FailuresAgree, Abort, is_out}
-use Rattle.trace_model.specs.Devices.{has_begun}
 use Rattle.trace_model.specs.Tags.{sent_with}
 use Rattle.attempt_table.specs.declared.rows.Row.{Row}
 use Rattle.attempt_table.specs.Rows.{row_of, owned_in, live_in, claims_by, answer_in}
@@ -89,8 +88,6 @@ pub record HostAgrees (s : HostSpec) (P : List Entry) (r : Running) : Type 0 whe
   pub early : r.ticks < 2 ^ 60
   pub few : length r.attempts.rows.items < 2 ^ 60
   pub failures : FailuresAgree s P r.failures
-  -- no step begins recovery as yet
-  pub calm : has_begun P ≡ false
   pub under_way : AreUnderWay P r.attempts.rows.items
   pub placed : ArePlaced r.attempts.rows.items r.commands.rows.items
   pub aborting : AreAborting P r.attempts.rows.items r.failures.work.waiting

@@ -53,7 +53,6 @@ returns-clause-runs c s P r =
       early = r.early;
       few = subst (λ (k : ℕ). k < 2 ^ 60) (sym rest.0) r.few;
       failures = agrees_apart s P old.failures came tt r.failures;
-      calm = r.calm;
       under_way = rest.1;
       placed = rest.2;
       aborting = aborting_alike P (came ∷ P) rows new rest.3 (λ k. refl) old.failures.work.waiting r.aborting;

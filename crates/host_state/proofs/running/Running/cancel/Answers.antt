@@ -57,7 +57,6 @@ returns-clause-runs c s P r =
       early = r.early;
       few = subst (λ (k : ℕ). k < 2 ^ 60) (sym (rows_length n.0 at_end rows new moves)) r.few;
       failures = c.fail.ensures.tells s P r.failures owned.known live.1;
-      calm = r.calm;
       under_way =
           settled_under_way s P (e ∷ P) old r n row ByExpiry is new moves
           (λ k isnt. (refl, out_alike k P (e ∷ P) refl (ap (λ (b : Bool). cond b true (failed_since_sent k P)) isnt) refl));

@@ -26,7 +26,6 @@ returns-clause-runs c s P r =
       early = r.early;
       few = subst (λ (xs : List Row). length xs < 2 ^ 60) (sym here.rows) r.few;
       failures = agrees_apart s P old.failures late tt r.failures;
-      calm = r.calm;
       under_way = subst (λ (xs : List Row). AreUnderWay P xs) (sym here.rows) r.under_way;
       placed = subst (λ (xs : List Row). ArePlaced xs old.commands.rows.items) (sym here.rows) r.placed;
       aborting =

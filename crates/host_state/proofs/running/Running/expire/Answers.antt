@@ -51,7 +51,6 @@ returns-clause-runs c s P r =
       early = r.early;
       few = subst (λ (k : ℕ). k < 2 ^ 60) (sym (rows_length n.0 expired rows new moves)) r.few;
       failures = agrees_apart s P old.failures due tt r.failures;
-      calm = r.calm;
       under_way = moves_under_way P n.0 expired rows new moves (refl, refl, refl, λ has. has) lives r.under_way;
       placed = placed_moved n.0 expired rows new old.commands.rows.items moves (refl, refl, refl, λ has. has) r.placed;
       aborting = aborting_alike P (due ∷ P) rows new (kept_moved n.0 expired rows new moves (refl, refl, refl, λ has. has)) (λ k. refl) old.failures.work.waiting r.aborting;

@@ -88,7 +88,6 @@ returns-clause-runs c s P d r =
       early = r.early;
       few = few;
       failures = c.fail.ensures.tells s J failures owned.known live.1;
-      calm = r.calm;
       under_way =
           settled_under_way s P (last ∷ J) old r n row ByAnswer is c.settle.new.self.rows.items moves
           (λ k isnt. (refl, out_alike k P (last ∷ J) refl (ap (λ (b : Bool). cond b true (failed_since_sent k P)) isnt) refl));

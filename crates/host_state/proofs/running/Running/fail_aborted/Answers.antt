@@ -61,7 +61,6 @@ returns-clause-runs c s P r =
       early = r.early;
       few = r.few;
       failures = c.fail.ensures.tells s T failures holds.known tried.out;
-      calm = r.calm;
       under_way =
           aborted_under_way P (last ∷ T) rows row.command tried.scheduled
           (λ k isnt. (

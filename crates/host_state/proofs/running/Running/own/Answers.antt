@@ -46,7 +46,6 @@ returns-clause-runs c s P r =
       early = r.early;
       few = subst (λ (k : ℕ). k < 2 ^ 60) (sym (rows_length n (given_to by) rows c.own.new.self.rows.items moves)) r.few;
       failures = agrees_apart s P old.failures given tt r.failures;
-      calm = r.calm;
       under_way = moves_under_way P n (given_to by) rows c.own.new.self.rows.items moves (refl, refl, refl, λ has. refl) lives r.under_way;
       placed = placed_moved n (given_to by) rows c.own.new.self.rows.items old.commands.rows.items moves (refl, refl, refl, λ has. refl) r.placed;
       aborting =

@@ -29,7 +29,6 @@ returns-clause-runs c s P id a is r =
       early = r.early;
       few = r.few;
       failures = idle_told s P old.failures id a idle r.failures;
-      calm = r.calm;
       placed = placed_at old.attempts.rows.items rows c.refuse.new.self.rows.items (same_ids s P (entry.Told id a ∷ P) old.commands c.refuse.new.self r.commands commands) r.placed;
       aborting =
           aborting_apart P (entry.Told id a ∷ P) old.attempts.rows.items old.attempts.rows.items (kept_same old.attempts.rows.items old.attempts.rows.items refl) id.0 Ended (λ d. refl) old.failures.work.waiting

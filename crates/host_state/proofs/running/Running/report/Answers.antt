@@ -101,7 +101,6 @@ returns-clause-runs c s P d x r =
       early = r.early;
       few = few;
       failures = c.tell-3.ensures.tells s J x failures owned.known (ap is_busy owned.busy) calm.2;
-      calm = r.calm;
       under_way =
           settled_under_way s P (last ∷ J) old r n row ByAnswer is c.settle.new.self.rows.items moves
           (λ k isnt. let stands : standing k (last ∷ J) ≡ standing k P = ap (λ (b : Bool). cond b Ended (standing k P)) isnt in (stands, out_alike k P (last ∷ J) stands refl refl));

@@ -76,7 +76,6 @@ returns-clause-runs c s P x r =
       early = r.early;
       few = r.few;
       failures = c.tell-3.ensures.tells s T x failures holds.known (ap is_busy holds.busy) (out_parts row.command.0 T tried.out).2;
-      calm = r.calm;
       under_way =
           aborted_under_way P (last ∷ T) rows row.command tried.scheduled
           (λ k isnt.

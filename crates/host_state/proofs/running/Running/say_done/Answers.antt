@@ -30,7 +30,6 @@ returns-clause-runs c s P r =
       early = r.early;
       few = r.few;
       failures = agrees_apart s P old.failures said tt r.failures;
-      calm = r.calm;
       under_way = r.under_way;
       placed = r.placed;
       aborting = aborting_still P (said ∷ P) old.attempts.rows.items (λ k. refl) old.failures.work.waiting r.aborting;

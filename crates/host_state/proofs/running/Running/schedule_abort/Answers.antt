@@ -73,7 +73,6 @@ returns-clause-runs c s P r =
       failures =
           c.schedule.ensures.tells s P r.failures owned.known live.1
           (and_from (was_sent n.0 P) (sent_for n.0 P == row.command.0) sent (eq-eqb (sent_for n.0 P) row.command.0 of));
-      calm = r.calm;
       under_way =
           settled_under_way s P (e ∷ P) old r n row ByExpiry is new moves
           (λ k isnt. (refl, out_alike k P (e ∷ P) refl refl (ap (λ (b : Bool). cond b true (is_aborting k P)) isnt)));

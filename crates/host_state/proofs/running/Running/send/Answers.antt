@@ -89,7 +89,6 @@ returns-clause-runs c s P id is timeout r =
         early = r.early;
         few = subst (λ (k : ℕ). k < 2 ^ 60) (sym (one_more rows c.send-attempt.new.self.rows.items _ c.send-attempt.ensures.rows)) c.requires.can.few;
         failures = c.send-2.ensures.tells s P id n t r.failures known (ap is_busy waiting) (never_sent s P old r n one);
-        calm = r.calm;
         placed =
             placed_pushed rows _ c.send-attempt.new.self.rows.items c.send-3.new.self.rows.items c.send-attempt.ensures.rows (ids c.args.place ∙ is ∙ ap Some (sym id_of))
             (placed_at rows old.commands.rows.items c.send-3.new.self.rows.items ids r.placed);

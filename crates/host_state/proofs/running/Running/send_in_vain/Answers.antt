@@ -136,7 +136,6 @@ returns-clause-runs c s P id is timeout r =
             subst (λ (x : CmdId). FailuresAgree s (entry.Bounced x n c.args.why ∷ Q) c.bounce-3.new.self) id_of
             (c.bounce-3.ensures.tells s Q n c.args.why (c.send-2.ensures.tells s P id n t r.failures known (ap is_busy waiting) (never_sent s P old r n one))
             (subst (λ (x : CmdId). knows s x.0 ≡ true) (sym id_of) known) (subst (λ (x : CmdId). is_out x.0 Q ≡ true) (sym id_of) going));
-        calm = r.calm;
         placed =
             placed_moved n.0 turned_away c.send-attempt.new.self.rows.items c.bounce.new.self.rows.items old.commands.rows.items c.bounce.ensures.rows (refl, refl, refl, λ has. has)
             (placed_pushed rows _ c.send-attempt.new.self.rows.items old.commands.rows.items c.send-attempt.ensures.rows (is ∙ ap Some (sym id_of)) r.placed);

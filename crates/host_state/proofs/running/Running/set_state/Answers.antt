@@ -20,7 +20,6 @@ returns-clause-runs c s P d is r =
       early = r.early;
       few = r.few;
       failures = agrees_apart s P old.failures (entry.State d c.args.state) tt r.failures;
-      calm = r.calm;
       placed = r.placed;
       aborting = aborting_still P (entry.State d c.args.state ∷ P) old.attempts.rows.items (λ k. refl) old.failures.work.waiting r.aborting;
       tagged = r.tagged;

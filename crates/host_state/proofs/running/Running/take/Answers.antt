@@ -28,7 +28,6 @@ returns-clause-runs c =
       early = r.early;
       few = r.few;
       failures = idle_took s P old.failures id idle r.failures;
-      calm = r.calm;
       placed = placed_at old.attempts.rows.items old.commands.rows.items c.take.new.self.rows.items (same_ids s P (entry.Took id ∷ P) old.commands c.take.new.self r.commands (follows s P id is r.commands)) r.placed;
       aborting =
           aborting_apart P (entry.Took id ∷ P) old.attempts.rows.items old.attempts.rows.items (kept_same old.attempts.rows.items old.attempts.rows.items refl) id.0 Waits (λ d. refl) old.failures.work.waiting
@@ -51,7 +50,6 @@ returns-clause-same c =
       early = r.early;
       few = r.few;
       failures = r.failures;
-      calm = r.calm;
       placed = placed_at old.attempts.rows.items old.commands.rows.items c.take.new.self.rows.items (same_ids s P P old.commands c.take.new.self r.commands (same s P r.commands)) r.placed;
       aborting = r.aborting;
       tagged = r.tagged;

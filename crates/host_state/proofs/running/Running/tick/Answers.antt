@@ -21,7 +21,6 @@ returns-clause-runs c s P none r =
       early = omega (arith, c.requires);
       few = r.few;
       failures = agrees_apart s P old.failures entry.Tick tt r.failures;
-      calm = r.calm;
       placed = r.placed;
       aborting = aborting_still P (entry.Tick ∷ P) old.attempts.rows.items (λ k. refl) old.failures.work.waiting r.aborting;
       tagged = r.tagged;
