@@ -59,18 +59,22 @@ sensed_row P c n sense f =
     sensed_by (n.0 == f.attempt.0) sense (row_of P f)
     ∙ ap (λ (x : Option Answer). record (row_of P f) { answer = x }) (sensed_answer (n.0 == f.attempt.0) f.cancelled sense (answer f.attempt.0 P))
 
-judged_by : (b : Bool) (d : Disp) (r : FailedRow) → cond b (record r { success = is_success d }) r ≡ record r { success = cond b (is_success d) r.success }
+judged_by : (b : Bool) (d : Disp) (r : FailedRow)
+    → cond b (record r { success = not r.cancelled && is_success d }) r ≡ record r { success = cond b (not r.cancelled && is_success d) r.success }
 judged_by true d r = refl
 judged_by false d r = refl
 
-judged_success : (b : Bool) (d : Disp) (x : Option Disp) → cond b (is_success d) (was_success x) ≡ was_success (cond b (Some d) x)
-judged_success true d x = refl
-judged_success false d x = refl
+judged_success : (b x : Bool) (d : Disp) (o : Option Disp)
+    → cond b (not x && is_success d) (cond x false (was_success o)) ≡ cond x false (was_success (cond b (Some d) o))
+judged_success true true d o = refl
+judged_success true false d o = refl
+judged_success false true d o = refl
+judged_success false false d o = refl
 
 pub judged_row : (P : List Entry) (c : CmdId) (n : Attempt) (d : Disp) (f : Failure) → judged n d (row_of P f) ≡ row_of (entry.Judged c n d ∷ P) f
 judged_row P c n d f =
     judged_by (n.0 == f.attempt.0) d (row_of P f)
-    ∙ ap (λ (b : Bool). record (row_of P f) { success = b }) (judged_success (n.0 == f.attempt.0) d (judgement f.attempt.0 P))
+    ∙ ap (λ (b : Bool). record (row_of P f) { success = b }) (judged_success (n.0 == f.attempt.0) f.cancelled d (judgement f.attempt.0 P))
 
 -- an answer of an attempt that is under way no longer isn't its own
 unwanted : (b o a : Bool) (x y : Option Answer) → o ≡ false → cond (b && (o && a)) x y ≡ y

@@ -1,18 +1,18 @@
 -- The table of verdicts has what the entries P, the newest first, say of each failed command: its last answer, and whether its last judgement was a success.
-use Rattle.std.specs.Prelude.{◌≡◌, ℕ, ◌<◌, ◌≤◌, ◌==◌, Bool, true, false, not, if◌then◌else◌, List, map, filter, Option, None, option_map, vec_len, vec_capacity}
+use Rattle.std.specs.Prelude.{◌≡◌, ℕ, ◌<◌, ◌≤◌, ◌==◌, Bool, true, false, not, ◌&&◌, if◌then◌else◌, List, map, filter, Option, None, option_map, vec_len, vec_capacity}
 use Rattle.std.specs.List.{All}
 use Rattle.mid_base.specs.declared.answers.Answer.{Answer}
 use Rattle.mid_base.specs.declared.answers.Disp.{Disp}
 use Rattle.mid_base.specs.declared.bytes.SenseBytes.{SenseBytes}
 use Rattle.mid_base.specs.declared.entries.Entry.{Entry}
-use Rattle.mid_base.specs.declared.entries.Entry.TheVariants.{Took, Bounced, Due, Longer, DoneSaid, Owned, Late, AbortSet, Aborted, Cleared, EhBegin, EhEnd, Act, Probe, Offline, State, Tick}
+use Rattle.mid_base.specs.declared.entries.Entry.TheVariants.{Took, Bounced, Due, Longer, DoneSaid, Late, AbortSet, Aborted, Cleared, EhBegin, EhEnd, Act, Probe, Offline, State, Tick}
 use Rattle.mid_base.specs.declared.host_spec.HostSpec.{HostSpec}
 use Rattle.mid_base.specs.declared.names.Attempt.{Attempt}
 use Rattle.mid_base.specs.declared.names.CmdId.{CmdId}
 use Rattle.mid_base.specs.Answers.{with_sense}
 use Rattle.mid_base.specs.Past.{was_sent}
 use Rattle.disposition.specs.Disp.{is_success}
-use Rattle.trace_model.specs.Attempts.{is_open, answer}
+use Rattle.trace_model.specs.Attempts.{is_open, is_settled, answer}
 use Rattle.trace_model.specs.Commands.{judgement}
 use Rattle.trace_model.specs.Flush.{was_success}
 use Rattle.trace_model.specs.Recovery.{Failure, failed}
@@ -24,9 +24,9 @@ use Rattle.verdict_table.specs.declared.verdicts.Verdicts.{Verdicts}
 abbrev pub last_answer : Bool → ℕ → List Entry → Option Answer
 last_answer cancelled n P = if cancelled then None else answer n P
 
--- its last judgement was a success
-abbrev pub has_succeeded : ℕ → List Entry → Bool
-has_succeeded n P = was_success (judgement n P)
+-- its last judgement was a success, which one that was cancelled has not
+abbrev pub has_succeeded : Bool → ℕ → List Entry → Bool
+has_succeeded cancelled n P = if cancelled then false else was_success (judgement n P)
 
 -- what the end of recovery needs of a failed command
 abbrev pub row_of : List Entry → Failure → FailedRow
@@ -35,12 +35,12 @@ row_of P f = record {
   attempt = f.attempt;
   cancelled = f.cancelled;
   answer = last_answer f.cancelled f.attempt.0 P;
-  success = has_succeeded f.attempt.0 P;
+  success = has_succeeded f.cancelled f.attempt.0 P;
 }
 
--- its attempt was sent, and is under way no longer
+-- its attempt was sent, is under way no longer, and is settled
 abbrev pub IsShut : List Entry → Failure → Type 0
-IsShut P f = (was_sent f.attempt.0 P ≡ true) × (is_open f.attempt.0 P ≡ false)
+IsShut P f = (was_sent f.attempt.0 P ≡ true) × (is_open f.attempt.0 P ≡ false) × (is_settled f.attempt.0 P ≡ true)
 
 pub record VerdictsAgree (s : HostSpec) (P : List Entry) (t : Verdicts) : Type 0 where
   pub rows : t.rows.items ≡ map (row_of P) (failed P)
@@ -56,7 +56,7 @@ pub record FailsWith (P : List Entry) (n : ℕ) (cancelled : Bool) (x : Option A
   pub sent : was_sent n P ≡ true
   pub shut : is_open n P ≡ false
   pub answer : x ≡ last_answer cancelled n P
-  pub verdict : has_succeeded n P ≡ false
+  pub verdict : has_succeeded cancelled n P ≡ false
 
 -- the rows without those of a command
 abbrev pub without : CmdId → List FailedRow → List FailedRow
@@ -68,7 +68,7 @@ sensed n x r = if n.0 == r.attempt.0 then record r { answer = option_map (with_s
 
 -- a row where attempt n was judged
 abbrev pub judged : Attempt → Disp → FailedRow → FailedRow
-judged n d r = if n.0 == r.attempt.0 then record r { success = is_success d } else r
+judged n d r = if n.0 == r.attempt.0 then record r { success = not r.cancelled && is_success d } else r
 
 -- the entries that say nothing of failed commands and of answers
 abbrev pub IsApart : Entry → Type 0
@@ -77,7 +77,6 @@ IsApart (Bounced c n why) = Unit {0}
 IsApart (Due n) = Unit {0}
 IsApart (Longer n) = Unit {0}
 IsApart (DoneSaid n) = Unit {0}
-IsApart (Owned n by) = Unit {0}
 IsApart (Late n) = Unit {0}
 IsApart (AbortSet c n) = Unit {0}
 IsApart (Aborted c n ok) = Unit {0}

@@ -13,7 +13,7 @@ mod tests;
 mod verdicts;
 
 pub use laws::{
-    a_new_attempt_or_an_answer_changes_no_verdict, each_row_is_of_a_failed_command,
+    each_row_is_of_a_failed_command, other_attempts_change_no_verdict,
     other_entries_change_no_verdict, there_is_room_while_fewer_have_failed_than_there_are_tags,
 };
 pub use verdicts::{FailedRow, Verdicts};

@@ -11,7 +11,7 @@ use mid_base::{Answer, Attempt, CmdId, Disp, NoMemory, SenseBytes};
 use std::alloc::Global;
 
 /// A failed command with its attempt: whether that was cancelled, its last answer, None where it was cancelled or has
-/// none, and whether its last judgement was a success.
+/// none, and whether its last judgement was a success, which it never is where it was cancelled.
 #[derive(Clone, Copy, PartialEq, Eq, Debug)]
 pub struct FailedRow {
     pub command: CmdId,
@@ -129,7 +129,7 @@ fn judged(row: FailedRow, n: Attempt, d: Disp) -> FailedRow
     if n != row.attempt {
         return row;
     }
-    let success = matches!(d, Disp::Success);
+    let success = !row.cancelled && matches!(d, Disp::Success);
     FailedRow { success, ..row }
 }
 
