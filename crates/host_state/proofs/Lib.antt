@@ -8,3 +8,4 @@ pub mod Timed
 pub mod Asked
 pub mod Aborts
 pub mod Failing
+pub mod Failed

@@ -26,6 +26,7 @@ use Rattle.device_table.specs.DevicesAgree.{DevicesAgree}
 use Rattle.timer_list.specs.Timers.{Timer, deadline_of}
 use Rattle.deadline_table.specs.declared.deadlines.Deadlines.{Deadlines}
 use Rattle.deadline_table.specs.DeadlinesAgree.{DeadlinesAgree, IsDueAt}
+use Rattle.verdict_table.specs.VerdictsAgree.{VerdictsAgree}
 use Rattle.host_state.specs.declared.running.Running.{Running}
 
 -- a command whose attempt is under way is busy with it, and neither failed nor to be aborted
@@ -88,6 +89,7 @@ pub record HostAgrees (s : HostSpec) (P : List Entry) (r : Running) : Type 0 whe
   pub early : r.ticks < 2 ^ 60
   pub few : length r.attempts.rows.items < 2 ^ 60
   pub failures : FailuresAgree s P r.failures
+  pub verdicts : VerdictsAgree s P r.verdicts
   pub under_way : AreUnderWay P r.attempts.rows.items
   pub placed : ArePlaced r.attempts.rows.items r.commands.rows.items
   pub aborting : AreAborting P r.attempts.rows.items r.failures.work.waiting

@@ -40,6 +40,7 @@ impl Running {
     {
         self.attempts.settle(n);
         self.failures.fail(row.command, n, true);
+        self.verdicts.fail(row.command, n, true, None);
     }
 
     /// The abort that was scheduled first of those that weren't tried yet, None exactly where there is none.
@@ -67,6 +68,7 @@ impl Running {
         self.devices.again(device, row.tag, true);
         let _ = self.failures.take_abort();
         self.failures.again(row.command);
+        self.verdicts.leave(row.command);
     }
 
     /// The abort that was scheduled first went well, and the command is reported.
@@ -79,6 +81,7 @@ impl Running {
         self.devices.tell(row.tag);
         let _ = self.failures.take_abort();
         self.failures.tell(row.command);
+        self.verdicts.leave(row.command);
     }
 
     /// The abort that was scheduled first failed, and with it the command: the host is in recovery.
@@ -89,5 +92,6 @@ impl Running {
     {
         let _ = self.failures.take_abort();
         self.failures.fail(row.command, n, true);
+        self.verdicts.fail(row.command, n, true, None);
     }
 }

@@ -1,6 +1,6 @@
 //! The running state of a host's core, which says at each moment what its journal says, without looking back.
 //!
-//! It is made of the tables of attempts, commands, devices, deadlines and failures, and the present tick. It is
+//! It is made of the tables of attempts, commands, devices, deadlines, failures and verdicts, and the present tick. It is
 //! tied to the journal by one relation, `HostAgrees`: the words of the journal's rules, looked back over, have the values that the
 //! running state has. Each call here says that it keeps the relation for the entries that it is for, or that its answer is
 //! what a word says. Entries of recovery have no call yet.

@@ -20,6 +20,7 @@ use device_table::Devices;
 use failure_table::Failures;
 use mid_base::{Attempt, By, DevAddr, DeviceState, HostSpec, NoMemory, Tag, TagState, Tick};
 use std::alloc::Global;
+use verdict_table::Verdicts;
 
 /// The running state of a host.
 #[derive(Drop)]
@@ -29,6 +30,7 @@ pub struct Running {
     pub(crate) devices: Devices,
     pub(crate) deadlines: Deadlines,
     pub(crate) failures: Failures,
+    pub(crate) verdicts: Verdicts,
     pub(crate) ticks: u64,
 }
 
@@ -47,6 +49,7 @@ impl Running {
             devices: Devices::new(alloc, spec.can_queue, luns)?,
             deadlines: Deadlines::new(alloc, spec.can_queue)?,
             failures: Failures::new(alloc, spec.can_queue)?,
+            verdicts: Verdicts::new(alloc, spec.can_queue)?,
             ticks: 0,
         })
     }
@@ -147,7 +150,7 @@ impl Running {
         ensures devices { self.new.devices ≡ self.old.devices }
         ensures deadlines { self.new.deadlines ≡ self.old.deadlines }
         ensures attempts { self.new.attempts.rows.items ≡ self.old.attempts.rows.items }
-        ensures failures { self.new.failures ≡ self.old.failures }
+        ensures failures { (self.new.failures ≡ self.old.failures) × (self.new.verdicts ≡ self.old.verdicts) }
         ensures ticks { self.new.ticks ≡ self.old.ticks }
     {
         self.attempts.reserve()

@@ -2,6 +2,7 @@ ghost use Rattle.std.specs.Prelude.{◌≡◌, ◌||◌, ℕ, true, false, List,
 ghost use Rattle.mid_base.specs.declared.answers.Answer.{Answer as AnswerSeen};
 ghost use Rattle.mid_base.specs.declared.answers.By.TheVariants.{Answer as ByAnswer};
 ghost use Rattle.mid_base.specs.declared.answers.Disp.{Disp as DispSeen};
+ghost use Rattle.mid_base.specs.declared.answers.Disp.TheVariants as disps;
 ghost use Rattle.mid_base.specs.declared.answers.TagState.TheVariants as tag;
 ghost use Rattle.mid_base.specs.declared.entries.Entry.{Entry as EntrySeen};
 ghost use Rattle.mid_base.specs.declared.entries.Entry.TheVariants as entries;
@@ -73,6 +74,7 @@ impl Running {
         self.devices.judged(device, &a);
         self.devices.tell(row.tag);
         self.failures.tell(row.command);
+        self.verdicts.leave(row.command);
         self.attempts.settle(n);
     }
 
@@ -88,18 +90,20 @@ impl Running {
         self.devices.judged(device, &a);
         self.devices.again(device, row.tag, counted);
         self.failures.again(row.command);
+        self.verdicts.leave(row.command);
         self.attempts.settle(n);
     }
 
     /// The answer that owns an attempt was judged, and the command has failed: the host is in recovery.
     pub fn fail(&mut self, n: Attempt, row: Row, a: Answer)
         requires { IsOwnedRow self.old n row a }
-        ensures runs { (s : SpecSeen) (P : List EntrySeen) (d : DispSeen) → HostAgrees s P self.old → HostAgrees s (entries.Failed row.command n false ∷ entries.Judged row.command n d ∷ P) self.new }
+        ensures runs { (s : SpecSeen) (P : List EntrySeen) → HostAgrees s P self.old → HostAgrees s (entries.Failed row.command n false ∷ entries.Judged row.command n disps.Fail ∷ P) self.new }
         ensures shown { IsFreed self.old.attempts.tags.items self.new.attempts.tags.items n ByAnswer row.tag }
     {
         let device = self.commands.row(row.place).device;
         self.devices.judged(device, &a);
         self.attempts.settle(n);
         self.failures.fail(row.command, n, false);
+        self.verdicts.fail(row.command, n, false, Some(a));
     }
 }

@@ -1,5 +1,5 @@
 -- The table of verdicts has what the entries P, the newest first, say of each failed command: its last answer, and whether its last judgement was a success.
-use Rattle.std.specs.Prelude.{◌≡◌, ℕ, ◌<◌, ◌≤◌, ◌==◌, Bool, true, false, not, ◌&&◌, if◌then◌else◌, List, map, filter, Option, None, option_map, vec_len, vec_capacity}
+use Rattle.std.specs.Prelude.{◌≡◌, ℕ, ◌<◌, ◌≤◌, ◌==◌, Bool, true, false, not, ◌&&◌, if◌then◌else◌, List, map, filter, Option, None, option_map, length, vec_capacity}
 use Rattle.std.specs.List.{All}
 use Rattle.mid_base.specs.declared.answers.Answer.{Answer}
 use Rattle.mid_base.specs.declared.answers.Disp.{Disp}
@@ -49,7 +49,7 @@ pub record VerdictsAgree (s : HostSpec) (P : List Entry) (t : Verdicts) : Type 0
 
 -- room for one failed command more
 abbrev pub HasRoom : Verdicts → Type 0
-HasRoom t = vec_len t.rows < vec_capacity t.rows
+HasRoom t = length t.rows.items < vec_capacity t.rows
 
 -- attempt n can fail with this answer: it is under way no longer, and no judgement of it was a success
 pub record FailsWith (P : List Entry) (n : ℕ) (cancelled : Bool) (x : Option Answer) : Type 0 where

@@ -20,6 +20,7 @@ use Rattle.failure_table.specs.FailuresAgree.{Abort}
 use Rattle.failure_table.proofs.Agree.{agrees_apart}
 use Rattle.failure_table.proofs.Entries.{out_parts}
 use Rattle.host_state.specs.HostAgrees.{AreAborting}
+use Rattle.host_state.proofs.Failed.{judged_first}
 use Rattle.host_state.proofs.Failing.{room_to_fail}
 use Rattle.host_state.proofs.Kept.{kept_moved, placed_moved, placed_at, aborting_apart, aborting_alike}
 use Rattle.host_state.proofs.Settled.{settles, under_way_of, settled_under_way, settled_timed, same_device, tag_freed, unscheduled}
@@ -111,6 +112,7 @@ returns-clause-runs c s P d r =
       early = r.early;
       few = few;
       failures = c.again-3.ensures.tells s J c.args.counted failures owned.known (ap is_busy owned.busy) calm.2;
+      verdicts = c.leave.ensures.again s J c.args.counted (judged_first s P old r n row ByAnswer d is);
       under_way =
           settled_under_way s P (last ∷ J) old r n row ByAnswer is c.settle.new.self.rows.items moves
           (λ k isnt. let stands : standing k (last ∷ J) ≡ standing k P = ap (λ (b : Bool). cond b Waits (standing k P)) isnt in (stands, out_alike k P (last ∷ J) stands refl refl));

@@ -7,6 +7,7 @@ use Rattle.attempt_table.proofs.Places.{rows_length}
 use Rattle.command_table.proofs.Entries.{follows_apart}
 use Rattle.device_table.proofs.Entries.{keeps_apart}
 use Rattle.host_state.specs.HostAgrees.{AreUnderWay, ArePlaced}
+use Rattle.verdict_table.proofs.Agree.{verdicts_answered}
 use Rattle.host_state.proofs.Kept.{AreKept, kept_moved, kept_same, placed_moved, aborting_alike}
 use Rattle.host_state.proofs.Moving.{moves_under_way}
 use Rattle.host_state.proofs.Timed.{timed_apart}
@@ -53,6 +54,7 @@ returns-clause-runs c s P r =
       early = r.early;
       few = subst (λ (k : ℕ). k < 2 ^ 60) (sym rest.0) r.few;
       failures = agrees_apart s P old.failures came tt r.failures;
+      verdicts = verdicts_answered s P old.verdicts c.args.n c.args.a r.verdicts;
       under_way = rest.1;
       placed = rest.2;
       aborting = aborting_alike P (came ∷ P) rows new rest.3 (λ k. refl) old.failures.work.waiting r.aborting;

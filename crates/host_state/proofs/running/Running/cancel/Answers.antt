@@ -16,6 +16,7 @@ use Rattle.command_table.proofs.Entries.{follows_apart}
 use Rattle.device_table.proofs.Entries.{keeps_apart}
 use Rattle.failure_table.specs.FailuresAgree.{Abort, is_aborting, is_for}
 use Rattle.host_state.specs.HostAgrees.{AreAborting}
+use Rattle.host_state.proofs.Failed.{fails_cancelled, verdict_room}
 use Rattle.host_state.proofs.Failing.{room_to_fail, room_to_schedule}
 use Rattle.host_state.proofs.Kept.{kept_moved, placed_moved, placed_at, aborting_alike, aborting_pushed}
 use Rattle.host_state.proofs.Settled.{settles, under_way_of, settled_under_way, settled_timed, tag_freed}
@@ -30,6 +31,14 @@ fail-requires c =
     let owned = settles asked.spec asked.entries old asked.runs c.args.n c.args.row ByExpiry asked.is in
     let going = (under_way_of asked.spec asked.entries old asked.runs c.args.n c.args.row ByExpiry asked.is).1 in
     room_to_fail asked.spec asked.entries old.failures asked.runs.failures c.args.row.command owned.known going
+
+pub fail-requires-2 : goal.fail-requires-2
+fail-requires-2 c =
+    let old = c.args.self.now in
+    let asked = c.requires in
+    let owned = settles asked.spec asked.entries old asked.runs c.args.n c.args.row ByExpiry asked.is in
+    let going = (under_way_of asked.spec asked.entries old asked.runs c.args.n c.args.row ByExpiry asked.is).1 in
+    verdict_room asked.spec asked.entries old asked.runs c.args.row.command (room_to_fail asked.spec asked.entries old.failures asked.runs.failures c.args.row.command owned.known going)
 
 pub returns-clause-runs : goal.returns-clause-runs
 returns-clause-runs c s P r =
@@ -57,6 +66,7 @@ returns-clause-runs c s P r =
       early = r.early;
       few = subst (λ (k : ℕ). k < 2 ^ 60) (sym (rows_length n.0 at_end rows new moves)) r.few;
       failures = c.fail.ensures.tells s P r.failures owned.known live.1;
+      verdicts = c.fail-2.ensures.tells s P r.verdicts (fails_cancelled s P old r n row ByExpiry is);
       under_way =
           settled_under_way s P (e ∷ P) old r n row ByExpiry is new moves
           (λ k isnt. (refl, out_alike k P (e ∷ P) refl (ap (λ (b : Bool). cond b true (failed_since_sent k P)) isnt) refl));

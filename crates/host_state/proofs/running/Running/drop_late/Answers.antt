@@ -6,6 +6,7 @@ use Rattle.command_table.proofs.Entries.{follows_apart}
 use Rattle.device_table.proofs.Entries.{keeps_apart}
 use Rattle.failure_table.proofs.Agree.{agrees_apart}
 use Rattle.host_state.specs.HostAgrees.{AreUnderWay, ArePlaced, IsTimed}
+use Rattle.verdict_table.proofs.Agree.{verdicts_apart}
 use Rattle.host_state.proofs.Kept.{kept_same, aborting_alike}
 use Rattle.host_state.proofs.Timed.{timed_apart}
 use Rattle.host_state.proofs.running.Running.drop_late.Goals as goal
@@ -26,6 +27,7 @@ returns-clause-runs c s P r =
       early = r.early;
       few = subst (λ (xs : List Row). length xs < 2 ^ 60) (sym here.rows) r.few;
       failures = agrees_apart s P old.failures late tt r.failures;
+      verdicts = verdicts_apart s P old.verdicts late tt r.verdicts;
       under_way = subst (λ (xs : List Row). AreUnderWay P xs) (sym here.rows) r.under_way;
       placed = subst (λ (xs : List Row). ArePlaced xs old.commands.rows.items) (sym here.rows) r.placed;
       aborting =

@@ -8,6 +8,7 @@ use Rattle.command_table.proofs.Entries.{follows_apart}
 use Rattle.device_table.proofs.Entries.{keeps_apart}
 use Rattle.failure_table.proofs.Agree.{agrees_apart}
 use Rattle.host_state.specs.HostAgrees.{IsTimed}
+use Rattle.verdict_table.proofs.Agree.{verdicts_apart}
 use Rattle.host_state.proofs.Asked.{waits_of}
 use Rattle.host_state.proofs.Kept.{kept_moved, placed_moved, aborting_alike}
 use Rattle.host_state.proofs.Moving.{moves_under_way}
@@ -51,6 +52,7 @@ returns-clause-runs c s P r =
       early = r.early;
       few = subst (λ (k : ℕ). k < 2 ^ 60) (sym (rows_length n.0 expired rows new moves)) r.few;
       failures = agrees_apart s P old.failures due tt r.failures;
+      verdicts = verdicts_apart s P old.verdicts due tt r.verdicts;
       under_way = moves_under_way P n.0 expired rows new moves (refl, refl, refl, λ has. has) lives r.under_way;
       placed = placed_moved n.0 expired rows new old.commands.rows.items moves (refl, refl, refl, λ has. has) r.placed;
       aborting = aborting_alike P (due ∷ P) rows new (kept_moved n.0 expired rows new moves (refl, refl, refl, λ has. has)) (λ k. refl) old.failures.work.waiting r.aborting;

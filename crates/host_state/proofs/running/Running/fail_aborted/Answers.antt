@@ -13,10 +13,13 @@ use Rattle.command_table.specs.Rows.{is_open}
 use Rattle.command_table.proofs.Entries.{follows_apart}
 use Rattle.device_table.specs.DevicesAgree.{IsOf}
 use Rattle.device_table.proofs.Entries.{keeps_apart}
-use Rattle.failure_table.specs.FailuresAgree.{Abort, is_aborting}
+use Rattle.failure_table.specs.FailuresAgree.{Abort, CanFail, is_aborting}
 use Rattle.failure_table.proofs.Entries.{out_parts, taken_first}
 use Rattle.host_state.specs.HostAgrees.{AreAborting}
-use Rattle.host_state.proofs.Aborts.{first_holds, tried_of, aborted_under_way}
+use Rattle.verdict_table.proofs.Agree.{verdicts_apart}
+use Rattle.host_state.proofs.Failed.{fails_aborted, verdict_room}
+use Rattle.eh_queue.specs.declared.queue.EhQueue.{EhQueue}
+use Rattle.host_state.proofs.Aborts.{first_busy, tried_of, aborted_under_way}
 use Rattle.host_state.proofs.Failing.{room_to_fail}
 use Rattle.host_state.proofs.Kept.{kept_same, placed_at, aborting_apart, aborting_alike}
 use Rattle.host_state.proofs.Ties.{same_ids, out_alike, unheld}
@@ -33,6 +36,19 @@ fail-requires c =
     let T = entry.Aborted c.args.row.command c.args.n false ∷ asked.entries in
     let failures = c.take_abort.ensures.tells asked.spec asked.entries c.args.row.command c.args.n false asked.runs.failures asked.first in
     room_to_fail asked.spec T c.take_abort.new.self failures c.args.row.command tried.holds.known tried.out
+
+pub fail-requires-2 : goal.fail-requires-2
+fail-requires-2 c =
+    let old = c.args.self.now in
+    let asked = c.requires in
+    let rest = c.take_abort.new.self.work.waiting in
+    let is = taken_first old.failures.work.waiting rest c.take_abort.result (c.args.row.command, c.args.n) c.take_abort.ensures.waiting asked.first in
+    let tried = tried_of asked.spec asked.entries old asked.runs c.args.n c.args.row false rest is asked.at in
+    let T = entry.Aborted c.args.row.command c.args.n false ∷ asked.entries in
+    let failures = c.take_abort.ensures.tells asked.spec asked.entries c.args.row.command c.args.n false asked.runs.failures asked.first in
+    let can = room_to_fail asked.spec T c.take_abort.new.self failures c.args.row.command tried.holds.known tried.out in
+    verdict_room asked.spec asked.entries old asked.runs c.args.row.command
+    (subst (λ (q : EhQueue). CanFail c.args.row.command (record old.failures { queue = q })) c.take_abort.ensures.rest.0 can)
 
 pub returns-clause-runs : goal.returns-clause-runs
 returns-clause-runs c s P r =
@@ -61,6 +77,7 @@ returns-clause-runs c s P r =
       early = r.early;
       few = r.few;
       failures = c.fail.ensures.tells s T failures holds.known tried.out;
+      verdicts = c.fail-2.ensures.tells s T (verdicts_apart s P old.verdicts e tt r.verdicts) (fails_aborted s P old r n row asked.at (first_busy s P old r n row asked.first asked.at).0);
       under_way =
           aborted_under_way P (last ∷ T) rows row.command tried.scheduled
           (λ k isnt. (

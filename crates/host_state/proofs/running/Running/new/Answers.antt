@@ -62,6 +62,7 @@ returns c =
       early = omega (arith);
       few = subst (λ (n : ℕ). n < 2 ^ 60) told.0.sends_are (omega (arith));
       failures = c.in_ok-new-5.ensures.tells s c.requires.ids refl;
+      verdicts = c.in_ok-new-6.ensures.tells s refl;
       placed = λ n x at. absurd (false≢true ((told.0.rows n).0 ∙ ap is_some at));
       aborting = subst (λ (xs : List Abort). AreAborting [] c.in_ok-new.field-0.rows.items xs) (sym c.in_ok-new-5.ensures.none.2) tt;
       tagged = tt;

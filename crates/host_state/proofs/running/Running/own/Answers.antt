@@ -10,6 +10,7 @@ use Rattle.attempt_table.proofs.Places.{rows_length}
 use Rattle.command_table.proofs.Entries.{follows_apart}
 use Rattle.device_table.proofs.Entries.{keeps_apart}
 use Rattle.failure_table.proofs.Agree.{agrees_apart}
+use Rattle.verdict_table.proofs.Agree.{verdicts_owned}
 use Rattle.host_state.proofs.Kept.{kept_moved, placed_moved, aborting_alike}
 use Rattle.host_state.proofs.Moving.{moves_under_way}
 use Rattle.host_state.proofs.Timed.{timed_stopped}
@@ -46,6 +47,7 @@ returns-clause-runs c s P r =
       early = r.early;
       few = subst (λ (k : ℕ). k < 2 ^ 60) (sym (rows_length n (given_to by) rows c.own.new.self.rows.items moves)) r.few;
       failures = agrees_apart s P old.failures given tt r.failures;
+      verdicts = verdicts_owned s P old.verdicts c.args.n by ((r.attempts.0.rows n).1 ∙ opened) r.verdicts;
       under_way = moves_under_way P n (given_to by) rows c.own.new.self.rows.items moves (refl, refl, refl, λ has. refl) lives r.under_way;
       placed = placed_moved n (given_to by) rows c.own.new.self.rows.items old.commands.rows.items moves (refl, refl, refl, λ has. refl) r.placed;
       aborting =

@@ -18,6 +18,7 @@ returns-clause-same c s P r =
       early = r.early;
       few = subst (λ (xs : List Row). length xs < 2 ^ 60) (sym same.rows) r.few;
       failures = r.failures;
+      verdicts = r.verdicts;
       placed = subst (λ (xs : List Row). ArePlaced xs old.commands.rows.items) (sym same.rows) r.placed;
       aborting = subst (λ (xs : List Row). AreAborting P xs old.failures.work.waiting) (sym same.rows) r.aborting;
       tagged = r.tagged;

@@ -16,6 +16,7 @@ use Rattle.device_table.proofs.Entries.{keeps_apart}
 use Rattle.failure_table.specs.FailuresAgree.{Abort, is_aborting}
 use Rattle.failure_table.proofs.Entries.{out_parts, taken_first}
 use Rattle.host_state.specs.HostAgrees.{AreAborting}
+use Rattle.verdict_table.proofs.Agree.{verdicts_apart}
 use Rattle.host_state.proofs.Aborts.{first_holds, tried_of, aborted_under_way}
 use Rattle.host_state.proofs.Failing.{room_to_fail}
 use Rattle.host_state.proofs.Kept.{kept_same, placed_at, aborting_apart, aborting_alike}
@@ -94,6 +95,7 @@ returns-clause-runs c s P r =
       early = r.early;
       few = r.few;
       failures = c.again-3.ensures.tells s T true failures holds.known (ap is_busy holds.busy) (out_parts row.command.0 T tried.out).2;
+      verdicts = c.leave.ensures.again s T true (verdicts_apart s P old.verdicts e tt r.verdicts);
       under_way =
           aborted_under_way P (last ∷ T) rows row.command tried.scheduled
           (λ k isnt.

@@ -5,6 +5,7 @@ use Rattle.attempt_table.proofs.Told.{tells_apart}
 use Rattle.command_table.proofs.Entries.{follows_apart}
 use Rattle.device_table.proofs.Entries.{keeps_apart}
 use Rattle.failure_table.proofs.Agree.{agrees_apart}
+use Rattle.verdict_table.proofs.Agree.{verdicts_apart}
 use Rattle.host_state.proofs.Asked.{waits_of}
 use Rattle.host_state.proofs.Kept.{aborting_still}
 use Rattle.host_state.proofs.Timed.{timed_dropped}
@@ -30,6 +31,7 @@ returns-clause-runs c s P r =
       early = r.early;
       few = r.few;
       failures = agrees_apart s P old.failures said tt r.failures;
+      verdicts = verdicts_apart s P old.verdicts said tt r.verdicts;
       under_way = r.under_way;
       placed = r.placed;
       aborting = aborting_still P (said ∷ P) old.attempts.rows.items (λ k. refl) old.failures.work.waiting r.aborting;

@@ -16,6 +16,7 @@ use Rattle.command_table.proofs.Entries.{follows_apart}
 use Rattle.device_table.proofs.Entries.{keeps_apart}
 use Rattle.failure_table.specs.FailuresAgree.{Abort, is_aborting, is_for}
 use Rattle.host_state.specs.HostAgrees.{AreAborting}
+use Rattle.verdict_table.proofs.Agree.{verdicts_apart}
 use Rattle.host_state.proofs.Failing.{room_to_fail, room_to_schedule}
 use Rattle.host_state.proofs.Kept.{kept_moved, placed_moved, placed_at, aborting_alike, aborting_pushed}
 use Rattle.host_state.proofs.Settled.{settles, under_way_of, settled_under_way, settled_timed, tag_freed}
@@ -88,6 +89,7 @@ returns-clause-runs c s P r =
             owned = ap (λ (x : Row). is_some x.owner) (sym was) ∙ ap (λ (x : _). is_some x) is.owner;
             busy = owned.busy ∙ ap (λ (x : Row). Busy n x.tag) was;
           }));
+      verdicts = verdicts_apart s P old.verdicts e tt r.verdicts;
       held_back = r.held_back;
       tagged = r.tagged;
     }

@@ -15,6 +15,7 @@ use Rattle.attempt_table.specs.AttemptsAgree.{AttemptsAgree}
 use Rattle.command_table.specs.declared.rows.CommandRow.{CommandRow}
 use Rattle.command_table.proofs.Entries.{id_is}
 use Rattle.device_table.specs.DevicesAgree.{IsOf}
+use Rattle.verdict_table.proofs.Agree.{verdicts_sent}
 use Rattle.host_state.proofs.Ties.{command_stands, of_device, same_ids}
 use Rattle.deadline_table.proofs.Changes.{unsent_is_idle}
 use Rattle.attempt_table.proofs.Places.{row_new}
@@ -89,6 +90,7 @@ returns-clause-runs c s P id is timeout r =
         early = r.early;
         few = subst (λ (k : ℕ). k < 2 ^ 60) (sym (one_more rows c.send-attempt.new.self.rows.items _ c.send-attempt.ensures.rows)) c.requires.can.few;
         failures = c.send-2.ensures.tells s P id n t r.failures known (ap is_busy waiting) (never_sent s P old r n one);
+        verdicts = verdicts_sent s P old.verdicts id n t (never_sent s P old r n one) r.verdicts;
         placed =
             placed_pushed rows _ c.send-attempt.new.self.rows.items c.send-3.new.self.rows.items c.send-attempt.ensures.rows (ids c.args.place ∙ is ∙ ap Some (sym id_of))
             (placed_at rows old.commands.rows.items c.send-3.new.self.rows.items ids r.placed);

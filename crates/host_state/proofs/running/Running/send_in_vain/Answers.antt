@@ -18,6 +18,7 @@ use Rattle.command_table.specs.declared.rows.CommandRow.{CommandRow}
 use Rattle.command_table.proofs.Entries.{id_is, follows_bounced}
 use Rattle.device_table.specs.declared.rows.DeviceRow.{DeviceRow}
 use Rattle.device_table.specs.DevicesAgree.{IsOf}
+use Rattle.verdict_table.proofs.Agree.{verdicts_apart, verdicts_sent}
 use Rattle.host_state.proofs.Ties.{command_stands, of_device, holds_alone, unheld}
 use Rattle.deadline_table.proofs.Changes.{unsent_is_idle}
 use Rattle.attempt_table.proofs.Told.{live_tag_is_shown}
@@ -136,6 +137,7 @@ returns-clause-runs c s P id is timeout r =
             subst (λ (x : CmdId). FailuresAgree s (entry.Bounced x n c.args.why ∷ Q) c.bounce-3.new.self) id_of
             (c.bounce-3.ensures.tells s Q n c.args.why (c.send-2.ensures.tells s P id n t r.failures known (ap is_busy waiting) (never_sent s P old r n one))
             (subst (λ (x : CmdId). knows s x.0 ≡ true) (sym id_of) known) (subst (λ (x : CmdId). is_out x.0 Q ≡ true) (sym id_of) going));
+        verdicts = verdicts_apart s Q old.verdicts (entry.Bounced id n c.args.why) tt (verdicts_sent s P old.verdicts id n t (never_sent s P old r n one) r.verdicts);
         placed =
             placed_moved n.0 turned_away c.send-attempt.new.self.rows.items c.bounce.new.self.rows.items old.commands.rows.items c.bounce.ensures.rows (refl, refl, refl, λ has. has)
             (placed_pushed rows _ c.send-attempt.new.self.rows.items old.commands.rows.items c.send-attempt.ensures.rows (is ∙ ap Some (sym id_of)) r.placed);

@@ -2,6 +2,7 @@ use Rattle.std.proofs.Common.{refl, ◌∷◌}
 use Rattle.mid_base.specs.declared.entries.Entry.TheVariants as entry
 use Rattle.attempt_table.proofs.Told.{tells_apart}
 use Rattle.command_table.proofs.Entries.{follows_apart}
+use Rattle.verdict_table.proofs.Agree.{verdicts_apart}
 use Rattle.host_state.proofs.Timed.{timed_apart}
 use Rattle.failure_table.proofs.Agree.{agrees_apart}
 use Rattle.host_state.proofs.Kept.{aborting_still}
@@ -20,6 +21,7 @@ returns-clause-runs c s P d is r =
       early = r.early;
       few = r.few;
       failures = agrees_apart s P old.failures (entry.State d c.args.state) tt r.failures;
+      verdicts = verdicts_apart s P old.verdicts (entry.State d c.args.state) tt r.verdicts;
       placed = r.placed;
       aborting = aborting_still P (entry.State d c.args.state ∷ P) old.attempts.rows.items (λ k. refl) old.failures.work.waiting r.aborting;
       tagged = r.tagged;

@@ -7,6 +7,7 @@ use Rattle.command_table.specs.declared.rows.CommandRow.{CommandRow}
 use Rattle.command_table.specs.Rows.{id_at}
 use Rattle.attempt_table.proofs.Told.{tells_apart}
 use Rattle.device_table.proofs.Entries.{not_busy_told}
+use Rattle.host_state.proofs.Failed.{idle_verdicts}
 use Rattle.host_state.proofs.Ties.{command_stands, idle_under_way, same_ids, unheld}
 use Rattle.host_state.proofs.Timed.{timed_apart}
 use Rattle.host_state.proofs.Failing.{idle_told, idle_unaborted}
@@ -32,6 +33,7 @@ returns-clause-runs c s P id a is r =
       early = r.early;
       few = r.few;
       failures = idle_told s P old.failures id a idle r.failures;
+      verdicts = idle_verdicts s P old id a idle r;
       placed = placed_at old.attempts.rows.items rows c.tell.new.self.rows.items (same_ids s P (entry.Told id a ∷ P) old.commands c.tell.new.self r.commands commands) r.placed;
       aborting =
           aborting_apart P (entry.Told id a ∷ P) old.attempts.rows.items old.attempts.rows.items (kept_same old.attempts.rows.items old.attempts.rows.items refl) id.0 Ended (λ d. refl) old.failures.work.waiting

@@ -4,6 +4,7 @@ use Rattle.trace_model.specs.declared.standing.Standing.TheVariants.{New, Waits}
 use Rattle.trace_model.specs.Commands.{standing, is_busy}
 use Rattle.attempt_table.proofs.Told.{tells_apart}
 use Rattle.device_table.proofs.Entries.{not_busy_took}
+use Rattle.verdict_table.proofs.Agree.{verdicts_apart}
 use Rattle.host_state.proofs.Ties.{stands_at, command_stands, idle_under_way, unheld, same_ids}
 use Rattle.std.proofs.lemmas.Result.{on_ok_weaker, on_err_weaker}
 use Rattle.host_state.proofs.Timed.{timed_apart}
@@ -28,6 +29,7 @@ returns-clause-runs c =
       early = r.early;
       few = r.few;
       failures = idle_took s P old.failures id idle r.failures;
+      verdicts = verdicts_apart s P old.verdicts (entry.Took id) tt r.verdicts;
       placed = placed_at old.attempts.rows.items old.commands.rows.items c.take.new.self.rows.items (same_ids s P (entry.Took id ∷ P) old.commands c.take.new.self r.commands (follows s P id is r.commands)) r.placed;
       aborting =
           aborting_apart P (entry.Took id ∷ P) old.attempts.rows.items old.attempts.rows.items (kept_same old.attempts.rows.items old.attempts.rows.items refl) id.0 Waits (λ d. refl) old.failures.work.waiting
@@ -50,6 +52,7 @@ returns-clause-same c =
       early = r.early;
       few = r.few;
       failures = r.failures;
+      verdicts = r.verdicts;
       placed = placed_at old.attempts.rows.items old.commands.rows.items c.take.new.self.rows.items (same_ids s P P old.commands c.take.new.self r.commands (same s P r.commands)) r.placed;
       aborting = r.aborting;
       tagged = r.tagged;

@@ -5,6 +5,7 @@ use Rattle.command_table.proofs.Entries.{follows_apart}
 use Rattle.deadline_table.proofs.Entries.{says_tick}
 use Rattle.deadline_table.proofs.Queries.{none_expired}
 use Rattle.failure_table.proofs.Agree.{agrees_apart}
+use Rattle.verdict_table.proofs.Agree.{verdicts_apart}
 use Rattle.host_state.proofs.Kept.{aborting_still}
 use Rattle.host_state.proofs.running.Running.tick.Goals as goal
 
@@ -21,6 +22,7 @@ returns-clause-runs c s P none r =
       early = omega (arith, c.requires);
       few = r.few;
       failures = agrees_apart s P old.failures entry.Tick tt r.failures;
+      verdicts = verdicts_apart s P old.verdicts entry.Tick tt r.verdicts;
       placed = r.placed;
       aborting = aborting_still P (entry.Tick ∷ P) old.attempts.rows.items (λ k. refl) old.failures.work.waiting r.aborting;
       tagged = r.tagged;
