@@ -9,3 +9,4 @@ pub mod Asked
 pub mod Aborts
 pub mod Failing
 pub mod Failed
+pub mod Begun

@@ -1,3 +1,4 @@
 pub mod HostAgrees
 pub mod Picks
 pub mod Owners
+pub mod Recovers
