@@ -8,4 +8,5 @@ pub mod Fetched
 pub mod Courses
 pub mod Expired
 pub mod Owned
+pub mod Unjudged
 pub mod Verdicts

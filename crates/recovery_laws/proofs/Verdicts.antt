@@ -5,6 +5,7 @@ use Rattle.mid_base.specs.Past.{attempt_of}
 use Rattle.mid_base.specs.declared.answers.Answer.{Answer}
 use Rattle.mid_base.specs.declared.answers.By.{By}
 use Rattle.mid_base.specs.declared.answers.By.TheVariants.{Answer as ByAnswer, Expiry as ByExpiry}
+use Rattle.mid_base.specs.declared.answers.Disp.{Disp}
 use Rattle.mid_base.specs.declared.entries.Entry.{Entry}
 use Rattle.mid_base.specs.declared.entries.Entry.TheVariants.{Cleared}
 use Rattle.mid_base.specs.declared.host_spec.HostSpec.{HostSpec}
@@ -21,10 +22,11 @@ use Rattle.trace_model.specs.Names.{command, dev_of}
 use Rattle.trace_model.specs.Recovery.{Failure, failed, todo, todo_of, is_cleared}
 use Rattle.trace_model.proofs.OnceMore.{held_all}
 use Rattle.step_laws.proofs.Clears.{was_cleared, last_cleared}
-use Rattle.recovery_laws.specs.Failed.{IsOwned, AreOwned, last_answer}
+use Rattle.recovery_laws.specs.Failed.{IsOwned, AreOwned, last_answer, succeeded}
 use Rattle.verdict_table.specs.Taken.{has_failed}
 use Rattle.recovery_laws.proofs.Busy.{failed_busy}
 use Rattle.recovery_laws.proofs.Owned.{failed_owned}
+use Rattle.recovery_laws.proofs.Unjudged.{expired_unjudged}
 
 pub flushed_first : (s : HostSpec) (P : List Entry) (c : ℕ) (f : Failure) (fs : List Failure) → is_flushed s P c ≡ true → failed P ≡ f ∷ fs → f.cmd.0 ≡ c
 flushed_first s P c f fs h e =
@@ -78,3 +80,24 @@ pub flushed_flush : (s : HostSpec) (P : List Entry) (c : ℕ) (f : Failure) (fs 
     → flush (command s c) (retries c P) (state s (dev_of s c) P) (last_answer P f) (was_success (judgement f.attempt.0 P))
     ≡ cond (is_saved s P c) flushed.Again (flushed.Told (told (last_answer P f)))
 flushed_flush s P c f fs each h e = ap (λ (b : Bool). cond b flushed.Again (flushed.Told (told (last_answer P f)))) (sym (flushed_saved s P c f fs each h e))
+
+-- a cancelled attempt was never judged, so it was no success
+success_told : (o : Option By) (j : Option Disp) (cancelled : Bool) → o ≡ Some (cond cancelled ByExpiry ByAnswer) → (o ≡ Some ByExpiry → j ≡ None) → cond cancelled false (was_success j) ≡ was_success j
+success_told o j true e h = rw (h e) refl
+success_told o j false e h = refl
+
+flushed_succeeded : (s : HostSpec) (P : List Entry) (f : Failure) (fs : List Failure) → EachStands s P → failed P ≡ f ∷ fs → succeeded P f ≡ was_success (judgement f.attempt.0 P)
+flushed_succeeded s P f fs each e =
+    let n : ℕ = f.attempt.0 in
+    let owned : IsOwned P f = (subst (λ (gs : List Failure). AreOwned P gs) e (failed_owned s P each)).0 in
+    success_told (owner n P) (judgement n P) f.cancelled owned.by (expired_unjudged s P n each)
+
+pub flushed_saved_by : (s : HostSpec) (P : List Entry) (c : ℕ) (f : Failure) (fs : List Failure) → EachStands s P → is_flushed s P c ≡ true → failed P ≡ f ∷ fs
+    → is_saved s P c ≡ (not (succeeded P f) && may_retry s P c)
+flushed_saved_by s P c f fs each h e = flushed_saved s P c f fs each h e ∙ ap (λ (b : Bool). not b && may_retry s P c) (sym (flushed_succeeded s P f fs each e))
+
+pub flushed_flush_by : (s : HostSpec) (P : List Entry) (c : ℕ) (f : Failure) (fs : List Failure) → EachStands s P → is_flushed s P c ≡ true → failed P ≡ f ∷ fs
+    → flush (command s c) (retries c P) (state s (dev_of s c) P) (last_answer P f) (succeeded P f)
+    ≡ cond (is_saved s P c) flushed.Again (flushed.Told (told (last_answer P f)))
+flushed_flush_by s P c f fs each h e =
+    ap (λ (b : Bool). flush (command s c) (retries c P) (state s (dev_of s c) P) (last_answer P f) b) (flushed_succeeded s P f fs each e) ∙ flushed_flush s P c f fs each h e

@@ -1,5 +1,5 @@
 -- What a legal journal has of a failed command. P has the newest entry first.
-use Rattle.std.specs.Prelude.{◌≡◌, ℕ, true, false, if◌then◌else◌, List, [], ◌∷◌, Option, None, Some, is_some}
+use Rattle.std.specs.Prelude.{◌≡◌, ℕ, Bool, true, false, if◌then◌else◌, List, [], ◌∷◌, Option, None, Some, is_some}
 use Rattle.mid_base.specs.declared.names.Tag.{Tag}
 use Rattle.mid_base.specs.declared.answers.Answer.{Answer}
 use Rattle.mid_base.specs.declared.answers.By.{By}
@@ -11,7 +11,8 @@ use Rattle.mid_base.specs.Past.{was_sent, sent_for, attempt_of, find_command}
 use Rattle.trace_model.specs.declared.standing.Standing.TheVariants.{Busy}
 use Rattle.trace_model.specs.Names.{dev_of}
 use Rattle.trace_model.specs.Attempts.{is_open, is_settled, answer, owner}
-use Rattle.trace_model.specs.Commands.{standing}
+use Rattle.trace_model.specs.Commands.{standing, judgement}
+use Rattle.trace_model.specs.Flush.{was_success}
 use Rattle.trace_model.specs.Recovery.{Failure}
 
 -- c is busy with n, its last attempt, which has its owner and is settled; and the spec has c
@@ -43,3 +44,7 @@ AreOwned P (f ∷ fs) = IsOwned P f × AreOwned P fs
 -- the last answer of a failed attempt, as recovery has it: none where it was cancelled
 abbrev pub last_answer : List Entry → Failure → Option Answer
 last_answer P f = if f.cancelled then None else answer f.attempt.0 P
+
+-- whether it was judged a success: one that was cancelled was not
+abbrev pub succeeded : List Entry → Failure → Bool
+succeeded P f = if f.cancelled then false else was_success (judgement f.attempt.0 P)

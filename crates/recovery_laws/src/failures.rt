@@ -1,7 +1,10 @@
-ghost use Rattle.std.specs.Prelude.{◌≡◌, ℕ, true, List};
+ghost use Rattle.std.specs.Prelude.{◌≡◌, ℕ, true, List, None, Some};
+ghost use Rattle.mid_base.specs.declared.answers.By.TheVariants.{Expiry};
 ghost use Rattle.mid_base.specs.declared.entries.Entry.{Entry};
 ghost use Rattle.mid_base.specs.declared.host_spec.HostSpec.{HostSpec};
 ghost use Rattle.escalation.specs.Climbing.{IsLast, AreLast};
+ghost use Rattle.trace_model.specs.Attempts.{owner};
+ghost use Rattle.trace_model.specs.Commands.{judgement};
 ghost use Rattle.trace_model.specs.Legal.{EachStands};
 ghost use Rattle.trace_model.specs.Recovery.{Failure, failed, todo, todo_of, listed};
 ghost use Rattle.recovery_laws.specs.Failed.{AreOwned, IsBusyWith};
@@ -28,4 +31,9 @@ pub fn the_todo_list_has_last_attempts()
 /// A failed attempt is owned by its expiry where it was cancelled, and by its answer, of which there is one, where it wasn't.
 pub fn each_failed_attempt_was_lost_or_answered()
     ensures { (s : HostSpec) (P : List Entry) → EachStands s P → AreOwned P (failed P) }
+{}
+
+/// An attempt that its expiry owns is never judged.
+pub fn an_expired_attempt_is_not_judged()
+    ensures { (s : HostSpec) (P : List Entry) (n : ℕ) → EachStands s P → owner n P ≡ Some Expiry → judgement n P ≡ None }
 {}

@@ -10,12 +10,13 @@ ghost use Rattle.trace_model.specs.Judging.{may_retry};
 ghost use Rattle.trace_model.specs.Legal.{EachStands};
 ghost use Rattle.trace_model.specs.Names.{command, dev_of};
 ghost use Rattle.trace_model.specs.Recovery.{Failure, failed};
-ghost use Rattle.recovery_laws.specs.Failed.{last_answer};
+ghost use Rattle.recovery_laws.specs.Failed.{last_answer, succeeded};
 
 // Here P is what a journal holds, the newest entry first, and f is the first on its failed list.
 
 /// The verdict on a command that is flushed is its last answer, or that its time ran out where it was cancelled; it goes again
-/// where that wasn't judged a success and the command may be retried. So it is with the flush of these (`done_flush`).
+/// where that wasn't judged a success, as one that was cancelled never is, and the command may be retried. So it is with the
+/// flush of these (`done_flush`).
 pub fn a_flushed_command_is_told_its_last_answer()
     ensures first { (s : HostSpec) (P : List Entry) (c : ℕ) (f : Failure) (fs : List Failure) → is_flushed s P c ≡ true → failed P ≡ f ∷ fs → f.cmd.0 ≡ c }
     ensures verdict_is { (s : HostSpec) (P : List Entry) (c : ℕ) (f : Failure) (fs : List Failure) → EachStands s P → is_flushed s P c ≡ true → failed P ≡ f ∷ fs
@@ -24,5 +25,10 @@ pub fn a_flushed_command_is_told_its_last_answer()
         → is_saved s P c ≡ (not (was_success (judgement f.attempt.0 P)) && may_retry s P c) }
     ensures flushes { (s : HostSpec) (P : List Entry) (c : ℕ) (f : Failure) (fs : List Failure) → EachStands s P → is_flushed s P c ≡ true → failed P ≡ f ∷ fs
         → flush (command s c) (retries c P) (state s (dev_of s c) P) (last_answer P f) (was_success (judgement f.attempt.0 P))
+        ≡ (if is_saved s P c then flushed.Again else flushed.Told (told (last_answer P f))) }
+    ensures saved_by { (s : HostSpec) (P : List Entry) (c : ℕ) (f : Failure) (fs : List Failure) → EachStands s P → is_flushed s P c ≡ true → failed P ≡ f ∷ fs
+        → is_saved s P c ≡ (not (succeeded P f) && may_retry s P c) }
+    ensures flushes_by { (s : HostSpec) (P : List Entry) (c : ℕ) (f : Failure) (fs : List Failure) → EachStands s P → is_flushed s P c ≡ true → failed P ≡ f ∷ fs
+        → flush (command s c) (retries c P) (state s (dev_of s c) P) (last_answer P f) (succeeded P f)
         ≡ (if is_saved s P c then flushed.Again else flushed.Told (told (last_answer P f))) }
 {}
