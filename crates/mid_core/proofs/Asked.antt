@@ -18,7 +18,7 @@ use Rattle.trace_model.specs.declared.standing.Standing.TheVariants.{Waits, Busy
 use Rattle.trace_model.specs.Names.{command}
 use Rattle.trace_model.specs.Commands.{standing, is_busy}
 use Rattle.attempt_table.specs.declared.rows.Row.{Row}
-use Rattle.attempt_table.specs.Rows.{row_of, open_in, owned_in, live_in, command_in}
+use Rattle.attempt_table.specs.Rows.{row_of, open_in, live_in, command_in}
 use Rattle.host_state.specs.declared.running.Running.{Running}
 use Rattle.host_state.specs.HostAgrees.{HostAgrees, IsAsked, IsFirstAbort}
 use Rattle.host_state.proofs.Aborts.{first_busy}

@@ -46,6 +46,7 @@ use Rattle.mid_base.specs.declared.answers.By.{By}
 use Rattle.host_state.specs.declared.running.Running.{Running}
 use Rattle.host_state.specs.HostAgrees.{HostAgrees, IsOwnedBy}
 use Rattle.host_template.specs.Laws.{IsSilent}
+use Rattle.recovery_laws.specs.Still.{is_unsettled}
 use Rattle.mid_core.specs.Steps.{may_enter}
 use Rattle.mid_core.specs.Choices.{IsHandedIn, HasTurn, MayBeSent, IsHanded, IsSaidOf, has_cause, why_not, follow_of, after_expiry, after_abort}
 use Rattle.mid_core.specs.declared.sending.Handed.{Handed}
@@ -79,7 +80,7 @@ module _ (s : HostSpec) (P : List Entry) (r : Running) (runs : HostAgrees s P r)
   pub opens_took : opens s P (step.Submit lane) (entry.Took h.next.command.id) ≡ true
   opens_took = eq-eqb (command s h.next.command.id.0).lane.0 lane.0 in_lane
 
-  refused : closed ≡ true → is_refused s P h.next.command.id.0 ≡ true
+  pub refused : closed ≡ true → is_refused s P h.next.command.id.0 ≡ true
   refused off = rw (is_next, device_closed, off) refl
 
   pub opens_refused : (a : Answer) → closed ≡ true → opens s P (step.Submit lane) (entry.Told h.next.command.id a) ≡ true
@@ -121,7 +122,7 @@ group_bounced s P c n t why = (rw (same c.0, same n.0) refl, tt)
 -- an attempt that waits for this owner
 module _ (s : HostSpec) (P : List Entry) (r : Running) (runs : HostAgrees s P r) (n : Attempt) (by : By) (row : Row) (there : row_of n.0 r.attempts.rows.items ≡ Some row) (opened : row.out ≡ true)
     (caused : has_cause by row ≡ true) where
-  is_opened : is_open n.0 P ≡ true
+  pub is_opened : is_open n.0 P ≡ true
   is_opened = (runs.attempts.0.rows n.0).1 ∙ ap open_in there ∙ opened
 
   pub waits_for : claims_by by (row_of n.0 r.attempts.rows.items) ≡ true
@@ -198,6 +199,9 @@ module _ (s : HostSpec) (P : List Entry) (r : Running) (runs : HostAgrees s P r)
       by_fields true true w owned = cc
       by_fields false true w owned = cc
 
+  pub not_settled : is_unsettled n.0 P ≡ true
+  not_settled = rw (owned_by, unsettled) refl
+
   pub nothing_bars_settling : (due : Bool) → barred s due P (step.Settle n) ≡ None
   nothing_bars_settling due = rw (owned_by, unsettled) refl
 
@@ -206,9 +210,9 @@ module _ (s : HostSpec) (P : List Entry) (r : Running) (runs : HostAgrees s P r)
 
 -- its answer is judged
 module _ (s : HostSpec) (P : List Entry) (r : Running) (runs : HostAgrees s P r) (n : Attempt) (row : Row) (a : Answer) (is : IsOwnedBy r n row ByAnswer)
-    (kept : answer_in r.attempts.kept.items (Some row) ≡ Some a) where
+    (kept : answer_in r.attempts.kept.items (Some row) ≡ Some a) (calm : has_begun P ≡ false) where
   judging : to_judge P row.command.0 n.0 && not (has_begun P) ≡ true
-  judging = rw (owned_by s P r runs n row ByAnswer is, unsettled s P r runs n row ByAnswer is, of_command s P r runs n row ByAnswer is, same row.command.0, runs.calm) refl
+  judging = rw (owned_by s P r runs n row ByAnswer is, unsettled s P r runs n row ByAnswer is, of_command s P r runs n row ByAnswer is, same row.command.0, calm) refl
 
   pub group_judged : (d : Disp) → d ≡ disp_of s P row.command.0 a → Group s P (entry.Judged row.command n d ∷ follow_of row.command n a d ∷ [])
   group_judged d right = by d right

@@ -4,4 +4,5 @@ pub mod Judged
 pub mod Offered
 pub mod Asked
 pub mod Groups
+pub mod Staged
 pub mod Growing

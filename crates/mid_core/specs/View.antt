@@ -1,12 +1,15 @@
 -- What contracts see of a core, and what always holds of one.
-use Rattle.std.specs.Prelude.{ℕ, List}
+use Rattle.std.specs.Prelude.{◌≡◌, ◌≤◌, ℕ, true, false, List, length, Option, None, Some}
 use Rattle.mid_base.specs.declared.answers.TagState.{TagState}
 use Rattle.mid_base.specs.declared.entries.Entry.{Entry}
 use Rattle.mid_base.specs.declared.host_spec.HostSpec.{HostSpec}
 use Rattle.mid_base.specs.declared.steps.Step.{Step}
 use Rattle.mid_base.specs.declared.steps.Step.TheVariants as step
 use Rattle.host_template.specs.Standing.{Before, Standing}
+use Rattle.trace_model.specs.Devices.{has_begun}
 use Rattle.trace_model.specs.Legal.{ByGroups}
+use Rattle.escalation.specs.Climbing.{Climb}
+use Rattle.climb_laws.specs.LadderOf.{IsLadderOf}
 use Rattle.host_state.specs.declared.running.Running.{Running}
 use Rattle.host_state.specs.HostAgrees.{HostAgrees}
 
@@ -20,11 +23,19 @@ pub record CoreView (A : Type 0) : Type 0 where
   pub spare : ℕ
   pub lower : A
 
+-- there is a ladder from EhBegin until EhEnd, and it stands where the journal does
+abbrev pub IsStaged : HostSpec → List Entry → Option Climb → Type 0
+IsStaged s P None = has_begun P ≡ false
+IsStaged s P (Some k) = (has_begun P ≡ true) × IsLadderOf s P k
+
 -- P is the journal, the newest entry first
-pub record IsCore {A : Type 0} (stands : A → Standing) (spec : HostSpec) (before : Before) (lower : A) (P : List Entry) (running : Running) : Type 0 where
+pub record IsCore {A : Type 0} (stands : A → Standing) (spec : HostSpec) (before : Before) (lower : A) (P : List Entry) (running : Running) (ladder : Option Climb) (probes : List ℕ)
+    : Type 0 where
   pub legal : ByGroups spec P
   pub stood : stands lower spec before P
   pub runs : HostAgrees spec P running
+  pub stage : IsStaged spec P ladder
+  pub buffer : 2056 ≤ length probes
 
 -- the steps that there are as yet
 abbrev pub IsBuilt : Step → Type 0

@@ -1,4 +1,4 @@
-ghost use Rattle.std.specs.Prelude.{◌≡◌, ◌↔◌, ◌≤◌, ◌<◌, ◌+◌, ◌^◌, true, [], reverse, IfOk, IsOk, OnOk, IsTrue};
+ghost use Rattle.std.specs.Prelude.{◌≡◌, ◌↔◌, ◌≤◌, ◌<◌, ◌+◌, ◌^◌, true, [], reverse, length, IfOk, IsOk, OnOk, IsTrue};
 ghost use Rattle.mid_base.specs.Address.{has_dev};
 ghost use Rattle.mid_base.specs.Limits.{KeepsLimits};
 ghost use Rattle.host_state.specs.HostAgrees.{HaveTags};
@@ -10,6 +10,7 @@ ghost use Rattle.trace_model.specs.Tags.{tag_states};
 ghost use Rattle.trace_model.specs.Claims.{waiting_claims, IsNextLate};
 
 use core_book::CoreBook;
+use escalation::Ladder;
 use host_state::Running;
 use host_template::HostTemplate;
 use mid_base::{
@@ -19,6 +20,9 @@ use std::alloc::Global;
 use std::marker::Model;
 use trace_model::Booked;
 
+/// The longest answer to a probe, that of REPORT LUNS for 256 units: 8 bytes for each and a header of 8 (SPC-4, 6.33).
+const PROBE_BYTES: usize = 2056;
+
 /// The core of one host over its lower layer.
 #[derive(Drop)]
 pub struct Core<A: HostTemplate> {
@@ -27,6 +31,10 @@ pub struct Core<A: HostTemplate> {
     pub(crate) lower: A,
     pub(crate) book: CoreBook,
     pub(crate) running: Running,
+    // The climb of recovery, from EhBegin until EhEnd.
+    pub(crate) ladder: Option<Ladder>,
+    // What the probes of recovery read.
+    pub(crate) probes: Vec<u8>,
 }
 
 impl<A: HostTemplate> Model for Core<A> {
@@ -37,7 +45,7 @@ impl<A: HostTemplate> Model for Core<A> {
 
     ghost view = { λ c. record { spec = c.spec; before = c.before; journal = c.book.entries; tags = c.running.attempts.tags.items; spare = c.book.spare; lower = c.lower } };
 
-    ghost invariant = { λ c. IsCore A.stands c.spec c.before c.lower (reverse c.book.entries) c.running };
+    ghost invariant = { λ c. IsCore A.stands c.spec c.before c.lower (reverse c.book.entries) c.running c.ladder c.probes.items };
 }
 
 impl<A: HostTemplate> Booked for Core<A> {
@@ -71,12 +79,15 @@ impl<A: HostTemplate> Core<A> {
     {
         let running = Running::new(alloc, &spec)?;
         let book = CoreBook::new(alloc, 1)?;
+        let probes = room_for_probes(alloc)?;
         Ok(Core {
             spec,
             before,
             lower,
             book,
             running,
+            ladder: None,
+            probes,
         })
     }
 
@@ -180,4 +191,14 @@ impl<A: HostTemplate> Core<A> {
         let _ = self.tag_states();
         answer
     }
+}
+
+// What a probe's answer is read into.
+fn room_for_probes(alloc: Global) -> Result<Vec<u8>, NoMemory>
+    ensures { IfOk result (λ v. length v.items ≡ 2056) }
+{
+    let Ok(probes) = vec![in alloc; 0u8; PROBE_BYTES] else {
+        return Err(NoMemory);
+    };
+    Ok(probes)
 }

@@ -35,6 +35,9 @@ impl<A: HostTemplate> Core<A> {
     pub(crate) fn set_state(&mut self, dev: DevAddr, state: DeviceState) -> Result<Did, NoMemory>
         ensures { Answers A.stands A.is_due self.old self.new (steps.SetState dev state) result }
     {
+        if self.ladder.is_some() {
+            return Ok(Did::Skipped(Why::EhRunning));
+        }
         let Some(place) = self.running.device_at(dev) else {
             return Ok(Did::Skipped(Why::Illegal));
         };

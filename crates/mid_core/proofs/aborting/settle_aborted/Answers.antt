@@ -1,8 +1,6 @@
-use Rattle.std.proofs.Common.{◌≡◌, ◌<◌, ◌∙◌, sym, ap, subst, refl, length, true, false, Bool, None, List, ◌∷◌, arith}
+use Rattle.std.proofs.Common.{◌≡◌, ◌<◌, ◌∙◌, sym, ap, subst, refl, length, true, false, Bool, None, ◌∷◌, arith}
 use Rattle.std.proofs.lemmas.Option.{same_Some}
-use Rattle.mid_base.specs.declared.answers.Answer.{Answer}
 use Rattle.mid_base.specs.declared.entries.Entry.TheVariants as entry
-use Rattle.mid_base.specs.Answers.{time_out}
 use Rattle.command_table.specs.declared.rows.CommandRow.{CommandRow}
 use Rattle.trace_model.specs.Judging.{may_retry}
 use Rattle.host_state.specs.HostAgrees.{HostAgrees}

@@ -1,4 +1,4 @@
-use Rattle.std.proofs.Common.{◌∙◌, sym, ap, subst, length, List, ◌∷◌, arith}
+use Rattle.std.proofs.Common.{◌∙◌, sym, ap, subst, length, ◌∷◌, arith}
 use Rattle.mid_base.specs.declared.entries.Entry.TheVariants.{Aborted}
 use Rattle.host_template.specs.Calls.{succeeded}
 use Rattle.host_template.specs.declared.says.EhSay.{EhSay}

@@ -1,4 +1,4 @@
-use Rattle.std.proofs.Common.{◌∙◌, sym, ap, subst, length, List, ◌∷◌, arith}
+use Rattle.std.proofs.Common.{◌∙◌, sym, ap, subst, length, ◌∷◌, arith}
 use Rattle.host_template.specs.Calls.{timed_out}
 use Rattle.host_template.specs.declared.says.TimerSay.{TimerSay}
 use Rattle.mid_core.proofs.Asked.{fits_last, asked_busy, timeout_is}

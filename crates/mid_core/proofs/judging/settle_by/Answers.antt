@@ -11,4 +11,4 @@ pub returns-in-Requeue-clause-runs : goal.returns-in-Requeue-clause-runs
 returns-in-Requeue-clause-runs c = λ s P runs. rw c.in-Requeue.is (c.again-in-Requeue.ensures.runs s P Requeue runs)
 
 pub returns-in-Fail-clause-runs : goal.returns-in-Fail-clause-runs
-returns-in-Fail-clause-runs c = λ s P runs. rw c.in-Fail.is (c.fail.ensures.runs s P Fail runs)
+returns-in-Fail-clause-runs c = λ s P runs. rw c.in-Fail.is (c.fail.ensures.runs s P runs)

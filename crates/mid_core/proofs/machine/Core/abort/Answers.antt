@@ -1,4 +1,4 @@
-use Rattle.std.proofs.Common.{reverse, ◌≡◌, ◌∙◌, sym, subst, refl, true, [], ◌∷◌}
+use Rattle.std.proofs.Common.{reverse, ◌≡◌, sym, subst, refl, true, [], ◌∷◌}
 use Rattle.std.specs.List.{list_all}
 use Rattle.mid_base.specs.declared.entries.Entry.{Entry}
 use Rattle.mid_base.specs.declared.entries.Entry.TheVariants.{Aborted}
@@ -7,6 +7,7 @@ use Rattle.mid_base.specs.Past.{ticks}
 use Rattle.host_template.specs.Laws.{IsSilent}
 use Rattle.mid_core.specs.Steps.{may_enter}
 use Rattle.mid_core.proofs.Groups.{group_aborted, nothing_bars_aborting, after_abort_silent, aborted_enters}
+use Rattle.mid_core.proofs.Staged.{Keeps, aborted_keeps, aborting_calm}
 use Rattle.mid_core.proofs.Growing.{core_grows, added2, back2}
 use Rattle.mid_core.proofs.machine.Core.abort.Goals as goal
 
@@ -25,7 +26,8 @@ invariant_of-self-2 g c =
     let follow = c.settle_aborted-follows.result in
     let right = c.settle_aborted-follows.ensures.entry P core.runs in
     rw (back2 c.self.inside.book.entries _ _ _ (Aborted row.command n ok) follow c.in_ok-reserve.ensures.entries c.push.ensures.entries c.push-2.ensures.entries)
-    (core_grows _ _ _ _ _ P (Aborted row.command n ok ∷ follow ∷ []) _ _ core
+    (core_grows _ _ _ _ _ P (Aborted row.command n ok ∷ follow ∷ []) _ _ _ _ core
+    (subst (λ (x : Entry). Keeps spec P (Aborted row.command n ok ∷ x ∷ [])) (sym right) (aborted_keeps spec P row.command n ok (aborting_calm spec P core.legal n.0 it.first)))
     (group_aborted spec P row.command n ok it.first it.sent c.try_abort-ok.ensures.calls follow right)
     (laws.silent c.try_abort-ok.new.lower spec before (Aborted row.command n ok ∷ P) follow (subst (λ (x : Entry). IsSilent spec x) (sym right) (after_abort_silent spec P row.command n ok))
     (c.try_abort-ok.ensures.stands P before core.runs core.stood))

@@ -6,6 +6,7 @@ use Rattle.trace_model.proofs.Making.{goes_on_back}
 use Rattle.command_table.proofs.Entries.{id_is}
 use Rattle.mid_core.proofs.Offered.{picked_id}
 use Rattle.mid_core.proofs.Groups.{group_stranded, stranded, group_handed, group_bounced}
+use Rattle.mid_core.proofs.Staged.{calm_keeps, keeps_stage, sending_calm}
 use Rattle.mid_core.proofs.Growing.{core_grows, added, back, added2, back2}
 use Rattle.mid_core.proofs.machine.Core.send.Goals as goal
 
@@ -26,7 +27,7 @@ invariant_of-self-in-Ok-Report g c =
     let there = picked_id spec P r i h.picked in
     let id = id_is i r.commands.rows.items c.command.result h.picked.command.id c.command.ensures there in
     rw (back c.self.inside.book.entries _ _ (Told c.command.result.id c.not_connected.result) c.in_ok-reserve-in-Ok-Report.ensures.entries c.push.ensures.entries, id, c.not_connected.ensures)
-    (core_grows _ _ _ _ _ P (Told h.picked.command.id no_connect ∷ []) _ _ core
+    (core_grows _ _ _ _ _ P (Told h.picked.command.id no_connect ∷ []) _ _ _ _ core (calm_keeps spec P (Told h.picked.command.id no_connect ∷ []) refl (sending_calm spec P core.legal h.calm))
     (group_stranded spec P r core.runs i _ h refl)
     (laws.silent c.self.inside.lower spec c.self.inside.before P (Told h.picked.command.id no_connect) tt core.stood)
     (c.strand.ensures.runs spec P h.picked.command.id no_connect there core.runs))
@@ -65,7 +66,7 @@ invariant_of-self-in-None g c =
     let may = (rw (c.in-Ok-Send.field-0-is, ← c.in-Ok-Send.place-is) at c.in-Ok-Send.ensures) spec P core.runs in
     let told = made.runs P core.runs may in
     rw (back c.self.inside.book.entries _ _ (Sent o.id o.attempt o.tag) c.in_ok-reserve-in-Ok-Send.ensures.entries c.push-in-Ok-Send.ensures.entries)
-    (core_grows _ _ _ _ _ P (Sent o.id o.attempt o.tag ∷ []) _ _ core
+    (core_grows _ _ _ _ _ P (Sent o.id o.attempt o.tag ∷ []) _ _ _ _ core (calm_keeps spec P (Sent o.id o.attempt o.tag ∷ []) refl (sending_calm spec P core.legal may.turn.calm))
     (group_handed spec P r c.hand_over.new.running core.runs _ may o told)
     (rw c.in-None.is at (made.stands P c.self.inside.before core.runs may core.stood))
     (rw c.in-None.is at told.runs))
@@ -113,6 +114,8 @@ invariant_of-self-in-Some g c =
           (group_bounced spec P o.id o.attempt o.tag why);
       stood = rw c.in-Some.is at (made.stands P c.self.inside.before core.runs may core.stood);
       runs = rw c.in-Some.is at told.runs;
+      stage = keeps_stage spec P (sent ∷ Bounced o.id o.attempt why ∷ []) _ (calm_keeps spec P (sent ∷ Bounced o.id o.attempt why ∷ []) refl (sending_calm spec P core.legal may.turn.calm)) core.stage;
+      buffer = core.buffer;
     })
 
 pub returns-in-Some : goal.returns-in-Some

@@ -1,4 +1,4 @@
-use Rattle.std.proofs.Common.{reverse, ◌≡◌, ◌∙◌, sym, subst, refl, true, [], ◌∷◌}
+use Rattle.std.proofs.Common.{reverse, ◌≡◌, sym, subst, refl, true, [], ◌∷◌}
 use Rattle.std.specs.List.{list_all}
 use Rattle.mid_base.specs.declared.answers.By.TheVariants.{Answer as ByAnswer, Expiry as ByExpiry}
 use Rattle.mid_base.specs.declared.entries.Entry.{Entry}
@@ -9,7 +9,8 @@ use Rattle.host_template.specs.Laws.{IsSilent}
 use Rattle.trace_model.specs.Steps.{opens}
 use Rattle.mid_core.specs.Choices.{follow_of}
 use Rattle.mid_core.specs.Steps.{may_enter}
-use Rattle.mid_core.proofs.Groups.{group_judged, group_expired, added_expired, nothing_bars_settling, opens_judged, opens_expired, follow_silent, follow_enters, expired_silent, expired_enters}
+use Rattle.mid_core.proofs.Groups.{not_settled, group_judged, group_expired, added_expired, nothing_bars_settling, opens_judged, opens_expired, follow_silent, follow_enters, expired_silent, expired_enters}
+use Rattle.mid_core.proofs.Staged.{Keeps, follow_keeps, expired_keeps, unsettled_calm}
 use Rattle.mid_core.proofs.Growing.{core_grows, added, back, added2, back2}
 use Rattle.mid_core.proofs.machine.Core.settle.Goals as goal
 
@@ -27,10 +28,11 @@ invariant_of-self-in-Some-Answered g c =
     let d = c.judge-disposition.result in
     let follow = follow_of row.command n a d in
     let told = (rw c.in-Some-Answered.field-0-is at c.in-Some-Answered.ensures) spec P core.runs in
+    let calm = unsettled_calm spec P core.legal n.0 (not_settled spec P r core.runs n row ByAnswer told.0) in
     let silent = laws.silent c.self.inside.lower spec before in
     rw (back2 c.self.inside.book.entries _ _ _ (Judged row.command n d) c.settle_by-follows.result c.in_ok-reserve-in-Some-Answered.ensures.entries c.push.ensures.entries c.push-in-Some-Answered.ensures.entries, c.settle_by-follows.ensures.entry)
-    (core_grows _ _ _ _ _ P (Judged row.command n d ∷ follow ∷ []) _ _ core
-    (group_judged spec P r core.runs n row a told.0 told.1 d (c.judge-disposition.ensures.disp P core.runs))
+    (core_grows _ _ _ _ _ P (Judged row.command n d ∷ follow ∷ []) _ _ _ _ core (follow_keeps spec P row.command n a d d calm)
+    (group_judged spec P r core.runs n row a told.0 told.1 calm d (c.judge-disposition.ensures.disp P core.runs))
     (silent (Judged row.command n d ∷ P) follow (follow_silent spec row.command n a d) (silent P (Judged row.command n d) tt core.stood))
     (c.settle_by-follows.ensures.runs spec P core.runs))
 
@@ -47,6 +49,7 @@ returns-in_ok-reserve-in-Some-Answered g c =
     let d = c.judge-disposition.result in
     let follow = follow_of row.command n a d in
     let told = (rw c.in-Some-Answered.field-0-is at c.in-Some-Answered.ensures) spec P core.runs in
+    let calm = unsettled_calm spec P core.legal n.0 (not_settled spec P r core.runs n row ByAnswer told.0) in
     rw (← c.self.view_is) (record {
       spec = refl;
       before = refl;
@@ -54,7 +57,7 @@ returns-in_ok-reserve-in-Some-Answered g c =
       journal = added2 c.self.inside.book.entries _ _ _ (Judged row.command n d) follow c.in_ok-reserve-in-Some-Answered.ensures.entries c.push.ensures.entries (rw c.settle_by-follows.ensures.entry at c.push-in-Some-Answered.ensures.entries);
       adds = record {
         opened = opens_judged spec P n row.command d;
-        added = group_judged spec P r core.runs n row a told.0 told.1 d (c.judge-disposition.ensures.disp P core.runs);
+        added = group_judged spec P r core.runs n row a told.0 told.1 calm d (c.judge-disposition.ensures.disp P core.runs);
         free = nothing_bars_settling spec P r core.runs n row ByAnswer told.0 (g.A.HostTemplate.is_due c.self.inside.lower (ticks P));
       };
       enters = follow_enters row.command row.command n n a d d;
@@ -74,8 +77,10 @@ invariant_of-self-in-Some-Expired g c =
     let e = c.settle_expired-entry.result in
     let told = (rw c.in-Some-Expired.field-0-is at c.in-Some-Expired.ensures) spec P core.runs in
     let right = c.settle_expired-entry.ensures.entry P core.runs in
+    let calm = unsettled_calm spec P core.legal n.0 (not_settled spec P r core.runs n row ByExpiry told) in
     rw (back c.self.inside.book.entries _ _ e c.in_ok-reserve-in-Some-Expired.ensures.entries c.push-in-Some-Expired.ensures.entries)
-    (core_grows _ _ _ _ _ P (e ∷ []) _ _ core
+    (core_grows _ _ _ _ _ P (e ∷ []) _ _ _ _ core
+    (subst (λ (x : Entry). Keeps spec P (x ∷ [])) (sym right) (expired_keeps spec P row.command n calm))
     (group_expired spec P r core.runs n row told e right)
     (laws.silent c.self.inside.lower spec before P e (subst (λ (x : Entry). IsSilent spec x) (sym right) (expired_silent spec P row.command n)) core.stood)
     (c.settle_expired-entry.ensures.runs P core.runs))

@@ -4,7 +4,8 @@ use Rattle.mid_base.specs.Answers.{no_connect}
 use Rattle.mid_base.specs.Past.{ticks}
 use Rattle.command_table.proofs.Entries.{id_is}
 use Rattle.mid_core.proofs.Known.{id_within}
-use Rattle.mid_core.proofs.Groups.{group_took, group_refused, opens_took, opens_refused, nothing_bars_handing}
+use Rattle.mid_core.proofs.Groups.{refused, group_took, group_refused, opens_took, opens_refused, nothing_bars_handing}
+use Rattle.mid_core.proofs.Staged.{refused_keeps, other_keeps}
 use Rattle.mid_core.proofs.Growing.{core_grows, added, back}
 use Rattle.mid_core.proofs.machine.Core.submit.Goals as goal
 
@@ -30,7 +31,7 @@ invariant_of-self-in-Ok-Refuse g c =
     let h = (rw c.in-Ok-Refuse.field-0-is at c.in-Ok-Refuse.ensures) spec P core.runs in
     let id = id_is i r.commands.rows.items c.command.result h.next.command.id c.command.ensures h.next.id in
     rw (back c.self.inside.book.entries _ _ (Told c.command.result.id c.not_connected.result) c.in_ok-reserve-in-Ok-Refuse.ensures.entries c.push.ensures.entries, id, c.not_connected.ensures)
-    (core_grows _ _ _ _ _ P (Told h.next.command.id no_connect ∷ []) _ _ core
+    (core_grows _ _ _ _ _ P (Told h.next.command.id no_connect ∷ []) _ _ _ _ core (refused_keeps spec P core.legal h.next.command.id no_connect (refused spec P r core.runs c.args.lane i _ h refl))
     (group_refused spec P r core.runs c.args.lane i _ h refl)
     (laws.silent c.self.inside.lower spec c.self.inside.before P (Told h.next.command.id no_connect) tt core.stood)
     (c.refuse.ensures.runs spec P h.next.command.id no_connect h.next.id core.runs))
@@ -69,7 +70,7 @@ invariant_of-self-in-Ok-Take g c =
     let h = (rw c.in-Ok-Take.field-0-is at c.in-Ok-Take.ensures) spec P core.runs in
     let id = id_is i r.commands.rows.items c.command-in-Ok-Take.result h.next.command.id c.command-in-Ok-Take.ensures h.next.id in
     rw (back c.self.inside.book.entries _ _ (Took c.command-in-Ok-Take.result.id) c.in_ok-reserve-in-Ok-Take.ensures.entries c.push-in-Ok-Take.ensures.entries, id)
-    (core_grows _ _ _ _ _ P (Took h.next.command.id ∷ []) _ _ core
+    (core_grows _ _ _ _ _ P (Took h.next.command.id ∷ []) _ _ _ _ core (other_keeps spec P (Took h.next.command.id) refl (λ begun. tt))
     (group_took spec P r core.runs c.args.lane i _ h refl)
     (laws.silent c.self.inside.lower spec c.self.inside.before P (Took h.next.command.id) tt core.stood)
     (c.in_ok-take-in-Ok-Take.ensures.runs spec P h.next.command.id h.next.id core.runs))

@@ -5,6 +5,7 @@ use Rattle.trace_model.specs.Attempts.{attempts}
 use Rattle.trace_model.specs.Time.{is_expired}
 use Rattle.mid_base.specs.Limits.{last_number}
 use Rattle.mid_core.proofs.Groups.{group_tick, nothing_bars_a_tick, none_expired}
+use Rattle.mid_core.proofs.Staged.{other_keeps}
 use Rattle.mid_core.proofs.Growing.{core_grows, added, back}
 use Rattle.mid_core.proofs.machine.Core.tick.Goals as goal
 
@@ -18,7 +19,7 @@ invariant_of-self-2 g c =
     ap (g.A.HostTemplate.is_due c.self.inside.lower) (core.runs.time ∙ sym c.now-now.ensures) ∙ (sym c.due.ensures ∙ c.if-due.false)
     in
     rw (back c.self.inside.book.entries _ _ Tick c.in_ok-reserve.ensures.entries c.push.ensures.entries)
-    (core_grows _ _ _ _ _ P (Tick ∷ []) _ _ core
+    (core_grows _ _ _ _ _ P (Tick ∷ []) _ _ _ _ core (other_keeps spec P Tick refl (λ begun. tt))
     (group_tick spec P (c.has_answer_waiting.ensures spec P core.runs ∙ c.if-has_answer_waiting.false) (c.has_expired.ensures spec P core.runs ∙ c.if-has_expired.false))
     (laws.quiet_tick c.self.inside.lower spec c.self.inside.before P idle core.stood)
     (c.tick.ensures.runs spec P (none_expired P (attempts P) (is_expired spec P) (c.has_expired.ensures spec P core.runs ∙ c.if-has_expired.false)) core.runs))

@@ -1,6 +1,7 @@
 use Rattle.std.proofs.Common.{reverse, ap, ◌∙◌, sym, refl, [], ◌∷◌, ◌≡◌, true}
 use Rattle.mid_base.specs.declared.entries.Entry.TheVariants.{Ready}
 use Rattle.mid_base.specs.Past.{ticks}
+use Rattle.mid_core.proofs.Staged.{ready_keeps}
 use Rattle.mid_core.proofs.Growing.{core_grows, added, back}
 use Rattle.mid_core.proofs.machine.Core.work.Goals as goal
 
@@ -12,7 +13,7 @@ invariant_of-self-in-Some g c =
     let roomy = c.in_ok-reserve-2.ensures.same spec P core.runs in
     let told = rw c.in-Some.is at c.in_ok-n.ensures.none in
     rw (back c.self.inside.book.entries _ _ (Ready c.in-Some.n c.in-Some.a) c.in_ok-reserve.ensures.entries c.push.ensures.entries)
-    (core_grows _ _ _ _ _ P (Ready c.in-Some.n c.in-Some.a ∷ []) _ _ core (tt, tt)
+    (core_grows _ _ _ _ _ P (Ready c.in-Some.n c.in-Some.a ∷ []) _ _ _ _ core (ready_keeps spec P core.legal c.in-Some.n c.in-Some.a) (tt, tt)
     (told spec c.self.inside.before P (c.now-now.ensures ∙ sym core.runs.time) core.stood)
     (c.answer.ensures.runs spec P roomy))
 
