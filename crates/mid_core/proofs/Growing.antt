@@ -1,5 +1,5 @@
 -- A core goes on by a group, and its journal grows at its end.
-use Rattle.std.proofs.Common.{◌≡◌, ◌∙◌, ap, ℕ, List, [], ◌∷◌, ◌++◌, reverse, append_assoc, Option}
+use Rattle.std.proofs.Common.{◌≡◌, ◌∙◌, ◌≤◌, ap, length, ℕ, List, [], ◌∷◌, ◌++◌, reverse, append_assoc, Option}
 use Rattle.std.proofs.lemmas.List.{reverse-append}
 use Rattle.mid_base.specs.declared.entries.Entry.{Entry}
 use Rattle.mid_base.specs.declared.host_spec.HostSpec.{HostSpec}
@@ -9,7 +9,7 @@ use Rattle.trace_model.proofs.Making.{goes_on_back}
 use Rattle.host_state.specs.declared.running.Running.{Running}
 use Rattle.host_state.specs.HostAgrees.{HostAgrees}
 use Rattle.escalation.specs.Climbing.{Climb}
-use Rattle.mid_core.specs.View.{IsCore}
+use Rattle.mid_core.specs.View.{IsCore, IsStaged}
 use Rattle.mid_core.proofs.Staged.{Keeps, keeps_stage}
 
 pub core_grows : {A : Type 0} (stands : A → Standing) (spec : HostSpec) (before : Before) (lower later : A) (P g : List Entry) (r new : Running) (ladder : Option Climb) (probes : List ℕ)
@@ -21,6 +21,18 @@ core_grows stands spec before lower later P g r new ladder probes core keeps may
   runs = runs;
   stage = keeps_stage spec P g ladder keeps core.stage;
   buffer = core.buffer;
+}
+
+-- a core goes on by a group of recovery
+pub core_recovers : {A : Type 0} (stands : A → Standing) (spec : HostSpec) (before : Before) (lower later : A) (P g : List Entry) (r new : Running) (ladder next : Option Climb) (probes bytes : List ℕ)
+    → IsCore stands spec before lower P r ladder probes → Group spec P g → stands later spec before (onto g P) → HostAgrees spec (onto g P) new → IsStaged spec (onto g P) next
+    → 2056 ≤ length bytes → IsCore stands spec before later (onto g P) new next bytes
+core_recovers stands spec before lower later P g r new ladder next probes bytes core may stood runs stage buffer = record {
+  legal = goes_on_back spec P g core.legal may;
+  stood = stood;
+  runs = runs;
+  stage = stage;
+  buffer = buffer;
 }
 
 -- one entry more

@@ -37,20 +37,6 @@ pub record IsCore {A : Type 0} (stands : A → Standing) (spec : HostSpec) (befo
   pub stage : IsStaged spec P ladder
   pub buffer : 2056 ≤ length probes
 
--- the steps that there are as yet
-abbrev pub IsBuilt : Step → Type 0
-IsBuilt (step.Submit lane) = Unit {0}
-IsBuilt step.Send = Unit {0}
-IsBuilt step.Work = Unit {0}
-IsBuilt step.Due = Unit {0}
-IsBuilt (step.Own n by) = Unit {0}
-IsBuilt (step.Settle n) = Unit {0}
-IsBuilt (step.Drop n) = Unit {0}
-IsBuilt step.Abort = Unit {0}
-IsBuilt step.Tick = Unit {0}
-IsBuilt (step.SetState dev state) = Unit {0}
-IsBuilt s = ⊥
-
 -- the steps that take no memory while there is spare
 abbrev pub IsSpared : Step → Type 0
 IsSpared (step.Own n by) = Unit {0}

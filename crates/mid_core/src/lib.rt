@@ -3,20 +3,25 @@
 //! Whatever steps are made, in whatever order and over whatever lower layer, the journal stays legal and the lower layer
 //! stands where the journal leaves it.
 //!
-//! A step finds out by the running state whether it is enabled and what it is to do (`choosing`, `judging`, `expiring`); then it takes all
+//! A step finds out by the running state whether it is enabled and what it is to do (`choosing`, `judging`,
+//! `expiring`); then it takes all
 //! its room, and from there on it can't fail.
 #![tactic(auto)]
 
 mod aborting;
+mod acting;
 mod answering;
 mod asking;
+mod beginning;
 mod choosing;
 mod expiring;
+mod flushing;
 mod handing;
 mod judging;
 mod machine;
 mod sending;
 mod settling;
+mod telling;
 mod timing;
 
 pub use machine::Core;

@@ -59,7 +59,7 @@ impl<A: HostTemplate> Booked for Core<A> {
 }
 
 impl<A: HostTemplate> Core<A> {
-    ghost use Rattle.mid_core.specs.View.{IsBuilt, IsSpared};
+    ghost use Rattle.mid_core.specs.View.{IsSpared};
     ghost use Rattle.mid_core.specs.Steps.{Answers, IsSame};
 
     /// A core whose journal is empty, for a spec within the limits over a lower layer that stands at the empty journal.
@@ -162,11 +162,7 @@ impl<A: HostTemplate> Core<A> {
     ///
     /// Done adds a group of entries that begins with an opener of the step. Skipped names the first condition of the step
     /// that fails. Where there is room for one entry, Own, Drop and Tick take no memory, and at most that one place.
-    ///
-    /// The steps of recovery (EhBegin, EhAct, EhFlush and EhEnd) aren't made yet, so a host whose command failed stays in
-    /// recovery.
     pub fn step(&mut self, s: Step) -> Result<Did, NoMemory>
-        requires { IsBuilt s }
         ensures answer { Answers A.stands A.is_due self.old self.new s result }
         ensures room { IsSpared s → 0 < self.old.spare → IsOk result × (self.old.spare ≤ self.new.spare + 1) }
         ensures legal { Legal self.new.spec self.new.journal }
@@ -182,9 +178,12 @@ impl<A: HostTemplate> Core<A> {
             Step::Settle(n) => self.settle(n),
             Step::Drop(n) => self.drop_late(n),
             Step::Abort => self.abort(),
+            Step::EhBegin => self.begin_recovery(),
+            Step::EhAct => self.act(),
+            Step::EhFlush => self.flush(),
+            Step::EhEnd => self.end_recovery(),
             Step::Tick => self.tick(),
             Step::SetState(dev, state) => self.set_state(dev, state),
-            _ => unreachable!(),
         };
         // What holds of a core holds of what the step left.
         let _ = self.journal();
