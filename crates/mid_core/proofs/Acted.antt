@@ -59,6 +59,16 @@ book_more old now next es i e lt is pushed before =
 pub back_onto : (J new es : List Entry) → new ≡ J ++ es → reverse new ≡ onto es (reverse J)
 back_onto J new es pushed = ap (λ (xs : List Entry). reverse xs) pushed ∙ (reverse-append J es ∙ sym (onto-reverse es (reverse J)))
 
+-- what is told of a group goes behind the journal
+pub told_behind : (J now new es told : List Entry) → now ≡ J → told ≡ es → new ≡ now ++ told → new ≡ J ++ es
+told_behind J now new es told same is pushed = pushed ∙ (ap (λ (xs : List Entry). xs ++ told) same ∙ ap (λ (xs : List Entry). J ++ xs) is)
+
+-- the running state says the journal with what is told behind it
+pub tells_all : (s : HostSpec) (P es told : List Entry) (now next : Running) → told ≡ es → HostAgrees s P now → AreTaken s P es
+    → ((Q : List Entry) → HostAgrees s Q now → AreTaken s Q told → HostAgrees s (onto told Q) next) → HostAgrees s (onto es P) next
+tells_all s P es told now next is runs taken tell =
+    subst (λ (xs : List Entry). HostAgrees s (onto xs P) next) is (tell P runs (subst (λ (xs : List Entry). AreTaken s P xs) (sym is) taken))
+
 -- the entries of an act send nothing, and give no attempt an owner
 pub taken_enters : (s : HostSpec) (P es : List Entry) → AreTaken s P es → list_all (may_enter step.EhAct) es ≡ true
 taken_enters s P [] taken = refl
