@@ -1,5 +1,5 @@
 -- What an act of recovery adds to the journal, entry by entry, and what the core owes for it.
-use Rattle.std.proofs.Common.{◌≡◌, ◌∙◌, ◌<◌, ◌≤◌, ◌+◌, ap, sym, subst, refl, ℕ, Bool, true, false, List, [], ◌∷◌, ◌++◌, reverse, length, length-append, length-drop, length-take, get_or, take, drop, append_assoc, None, Some, Vec, arith}
+use Rattle.std.proofs.Common.{◌≡◌, ◌∙◌, ◌<◌, ◌≤◌, ◌+◌, ap, sym, subst, refl, ℕ, Bool, true, false, List, [], ◌∷◌, ◌++◌, reverse, length, length-append, length-drop, length-take, get_or, take, drop, append_assoc, None, Some, arith}
 use Rattle.std.specs.List.{list_all}
 use Rattle.std.proofs.lemmas.List.{take_more, drop_more, reverse-append}
 use Rattle.mid_base.specs.declared.answers.Scope.{Scope}
@@ -44,7 +44,7 @@ pub tells_more : (s : HostSpec) (P es : List Entry) (i : ℕ) (e : Entry) (now n
 tells_more s P es i e now next lt is enter (runs, taken) =
     let rest : drop i es ≡ e ∷ drop (i + 1) es = drop_more es i e lt ∙ ap (λ (x : Entry). x ∷ drop (i + 1) es) (sym is) in
     let front : onto (take (i + 1) es) P ≡ e ∷ onto (take i es) P =
-        ap (λ (xs : List Entry). onto xs P) (take_more es i e lt ∙ ap (λ (x : Entry). take i es ++ x ∷ []) (sym is)) ∙ onto_more (take i es) e P in
+    ap (λ (xs : List Entry). onto xs P) (take_more es i e lt ∙ ap (λ (x : Entry). take i es ++ x ∷ []) (sym is)) ∙ onto_more (take i es) e P in
     let both : AreTaken s (onto (take i es) P) (e ∷ drop (i + 1) es) = subst (λ (xs : List Entry). AreTaken s (onto (take i es) P) xs) rest taken in
     subst (λ (Q : List Entry). HostAgrees s Q next × AreTaken s Q (drop (i + 1) es)) (sym front) (enter s (onto (take i es) P) both.0 runs, both.1)
 
@@ -87,7 +87,7 @@ buffer_kept n old new long is same =
 
 -- the next act of the ladder of a core
 module _ (s : HostSpec) (P : List Entry) (each : EachStands s P) (k : Climb) (stage : IsStaged s P (Some k)) (level : ℕ) (scope : Scope) (ok : Bool) (es : List Entry)
-  (act : IsNextAct k level scope ok es) where
+    (act : IsNextAct k level scope ok es) where
   leads : LeadTo s P es (gone_on (level, scope) es k)
   leads = leads_on s P k level scope ok es (record { begun = stage.0; quiet = (still s P each stage.0).quiet; ladder = stage.1; act = act })
 

@@ -1,4 +1,4 @@
-use Rattle.std.proofs.Common.{◌≡◌, ◌∙◌, ◌++◌, ap, sym, subst, refl, arith, List, append-nil, take}
+use Rattle.std.proofs.Common.{◌∙◌, ◌++◌, ap, sym, subst, refl, arith, List, append-nil, take}
 use Rattle.std.proofs.lemmas.List.{take_all}
 use Rattle.mid_base.specs.declared.entries.Entry.{Entry}
 use Rattle.host_state.specs.HostAgrees.{HostAgrees}

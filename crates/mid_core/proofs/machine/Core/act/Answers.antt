@@ -1,4 +1,4 @@
-use Rattle.std.proofs.Common.{◌≡◌, ◌∙◌, ap, sym, subst, refl, ℕ, List, length, reverse}
+use Rattle.std.proofs.Common.{◌∙◌, ap, sym, subst, refl, ℕ, List, length, reverse}
 use Rattle.mid_base.specs.declared.entries.Entry.{Entry}
 use Rattle.mid_base.specs.Past.{ticks}
 use Rattle.verdict_table.specs.Taken.{AreTaken}
@@ -11,9 +11,12 @@ tell_all-requires-clause-runs g c =
     let core = rw c.in-Some.is at c.self.invariant in
     let spec = c.self.inside.spec in
     let P = reverse c.self.inside.book.entries in
-    let acted = rw c.in-Act.is at c.in_ok-entries.ensures.act in
-    (P, core.runs, subst (λ (es : List Entry). AreTaken spec P es) (sym c.deref.ensures.value)
-    (acts_taken spec P (each_of spec P core.legal) c.in-Some.ladder core.stage c.in-Act.level c.in-Act.scope c.in-Act.ok c.in-Act.entries.items acted.0 core.runs.limits))
+    let acted = rw c.in-Act.is at c.in_ok-entries.ensures.act in (
+      P,
+      core.runs,
+      subst (λ (es : List Entry). AreTaken spec P es) (sym c.deref.ensures.value)
+          (acts_taken spec P (each_of spec P core.legal) c.in-Some.ladder core.stage c.in-Act.level c.in-Act.scope c.in-Act.ok c.in-Act.entries.items acted.0 core.runs.limits),
+    )
 
 pub invariant_of-self-in-Act : goal.invariant_of-self-in-Act
 invariant_of-self-in-Act g c =
