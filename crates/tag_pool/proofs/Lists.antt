@@ -13,7 +13,7 @@ use Rattle.mid_base.specs.Address.{same_dev}
 use Rattle.tag_pool.specs.declared.depths.DeviceDepth.{DeviceDepth}
 use Rattle.tag_pool.specs.Depths.{is_at, device, depth_in, Changes, IsSound, at_start}
 
-same_other : (a b x : DevAddr) → same_dev a b ≡ true → same_dev x b ≡ same_dev x a
+pub same_other : (a b x : DevAddr) → same_dev a b ≡ true → same_dev x b ≡ same_dev x a
 same_other a b x same =
     let channel : a.channel ≡ b.channel = grind (arith, nat_tests) in
     let target : a.target ≡ b.target = grind (arith, nat_tests) in

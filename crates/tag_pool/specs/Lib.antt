@@ -1,3 +1,5 @@
 pub mod Depths
 pub mod Tags
+pub mod Words
+pub mod Counts
 pub mod Pool

@@ -11,6 +11,7 @@ mod pool;
 mod tags;
 #[cfg(test)]
 mod tests;
+mod words;
 
 pub use depths::DeviceDepth;
 pub use pool::{TagPool, Take};

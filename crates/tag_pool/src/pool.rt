@@ -5,7 +5,7 @@ ghost use Rattle.tag_pool.specs.Depths.{fuller, better, at_start, depth_in, Chan
 ghost use Rattle.tag_pool.specs.Tags.{is_out, out_of, has_room, Takes, taken};
 
 use crate::depths::{DeviceDepth, at_start, better, fuller, place_of};
-use crate::tags::{all_out, least_free, out_of};
+use crate::tags::Tags;
 use mid_base::{DevAddr, NoMemory, Tag};
 use std::alloc::Global;
 use std::marker::Model;
@@ -25,21 +25,23 @@ pub enum Take {
 /// is kept of each device. A device that the pool wasn't made with has the depth 0.
 #[derive(Drop)]
 pub struct TagPool {
-    tags: Vec<Option<DevAddr>>,
+    tags: Tags,
     devices: Vec<DeviceDepth>,
+    // How many tags are out for each device.
+    counts: Vec<u16>,
 }
 
 impl Model for TagPool {
-    ghost use Rattle.std.specs.Prelude.{◌<◌, ◌^◌, vec_len};
     ghost use Rattle.std.specs.List.{All};
     ghost use Rattle.tag_pool.specs.Pool.{Pool};
     ghost use Rattle.tag_pool.specs.Depths.{IsSound};
+    ghost use Rattle.tag_pool.specs.Counts.{AreCounted};
 
     ghost Value = { Pool };
 
-    ghost view = { λ p. record { tags = p.tags.items; devices = p.devices.items } };
+    ghost view = { λ p. record { tags = p.tags; devices = p.devices.items } };
 
-    ghost invariant = { λ p. (vec_len p.tags < 2 ^ 16) × All IsSound p.devices.items };
+    ghost invariant = { λ p. All IsSound p.devices.items × AreCounted p.tags p.devices.items p.counts.items };
 }
 
 impl TagPool {
@@ -54,10 +56,11 @@ impl TagPool {
         ensures tags { IfOk result (λ p. p.tags ≡ replicate can_queue None) }
         ensures devices { IfOk result (λ p. p.devices ≡ map at_start devices.now) }
     {
-        let Ok(tags) = vec![in alloc; None; usize::from(can_queue)] else {
+        let tags = Tags::new(alloc, can_queue)?;
+        let Ok(mut depths) = Vec::with_capacity(alloc, devices.len()) else {
             return Err(NoMemory);
         };
-        let Ok(mut depths) = Vec::with_capacity(alloc, devices.len()) else {
+        let Ok(counts) = vec![in alloc; 0; devices.len()] else {
             return Err(NoMemory);
         };
         for scripted in devices {
@@ -66,6 +69,7 @@ impl TagPool {
         Ok(TagPool {
             tags,
             devices: depths,
+            counts,
         })
     }
 
@@ -77,23 +81,30 @@ impl TagPool {
         ensures tags { self.new.tags ≡ taken self.old.tags dev result }
         ensures devices { self.new.devices ≡ self.old.devices }
     {
-        let Some(free) = least_free(&self.tags) else {
-            return Take::HostFull(self.tags.len() as u16);
+        let Some(free) = self.tags.least_free() else {
+            return Take::HostFull(self.tags.count());
         };
-        let depth = self.depth(dev);
-        if out_of(&self.tags, dev) >= depth {
+        let Some(place) = place_of(&self.devices, dev) else {
+            return Take::DeviceFull(0);
+        };
+        let depth = self.devices[place].depth;
+        if self.counts[place] >= depth {
             return Take::DeviceFull(depth);
         }
-        self.tags[free] = Some(dev);
-        Take::Tag(Tag(free as u16))
+        self.tags.take(free, dev);
+        self.counts[place] += 1;
+        Take::Tag(Tag(free))
     }
 
     /// Whether `take` would give the device a tag: one is free, and fewer of the device's are out than its depth.
     pub fn can_take(&self, dev: DevAddr) -> bool
         ensures { result ≡ has_room self.now.tags dev (depth_in dev self.now.devices) }
     {
-        let one_is_free = usize::from(all_out(&self.tags)) < self.tags.as_slice().len();
-        one_is_free && out_of(&self.tags, dev) < self.depth(dev)
+        let one_is_free = self.tags.all_out() < self.tags.count();
+        match place_of(&self.devices, dev) {
+            Some(place) => one_is_free && self.counts[place] < self.devices[place].depth,
+            None => false,
+        }
     }
 
     /// Gives a tag back, which has to be out, and is free from then on.
@@ -102,7 +113,10 @@ impl TagPool {
         ensures tags { self.new.tags ≡ slice_set self.old.tags t.0 None }
         ensures devices { self.new.devices ≡ self.old.devices }
     {
-        self.tags[usize::from(t.0)] = None;
+        let dev = self.tags.give(t.0);
+        if let Some(place) = place_of(&self.devices, dev) {
+            self.counts[place] -= 1;
+        }
     }
 
     /// A device has answered TASK SET FULL. Its depth becomes one less than so many of its tags as are out, where that is
@@ -111,9 +125,8 @@ impl TagPool {
         ensures tags { self.new.tags ≡ self.old.tags }
         ensures devices { Changes dev (fuller (out_of dev self.old.tags)) self.old.devices self.new.devices }
     {
-        let out = out_of(&self.tags, dev);
         if let Some(place) = place_of(&self.devices, dev) {
-            self.devices[place] = fuller(self.devices[place], out);
+            self.devices[place] = fuller(self.devices[place], self.counts[place]);
         }
     }
 
