@@ -1,22 +1,18 @@
 -- What recovery has to do as it begins, and where the journal and the lower layer stand then.
-use Rattle.std.proofs.Common.{◌≡◌, ◌∙◌, sym, ap, subst, refl, ℕ, zero, suc, ◌+◌, ◌==◌, Bool, true, false, not, ◌&&◌, cond, map, filter, List, [], ◌∷◌, ◌++◌, reverse, append_assoc, Option, None, Some, is_some, take, length, get_or, ◌<◌}
+use Rattle.std.proofs.Common.{◌≡◌, ◌∙◌, sym, ap, refl, ℕ, zero, suc, ◌+◌, ◌==◌, Bool, true, false, not, ◌&&◌, cond, map, filter, List, [], ◌∷◌, ◌++◌, reverse, append_assoc, Option, None, Some, is_some, take, length, get_or, ◌<◌}
 use Rattle.std.specs.Prelude.{slice_get, option_map}
 use Rattle.std.specs.List.{list_all, list_any}
-use Rattle.std.proofs.lemmas.Bool.{eq-eqb, and_from, or_left, or_right, false≢true}
+use Rattle.std.proofs.lemmas.Bool.{eq-eqb, and_from, or_left, or_right}
 use Rattle.std.proofs.lemmas.List.{reverse-append, take-map, map_more}
 use Rattle.std.proofs.lemmas.Option.{same_Some, none-some, slice_get-map, slice_get_within, slice_get_read, get_or_from_slice_get}
-use Rattle.mid_base.specs.declared.answers.Answer.{Answer}
 use Rattle.mid_base.specs.declared.entries.Entry.{Entry}
-use Rattle.mid_base.specs.declared.entries.Entry.TheVariants.{Cleared, EhBegin}
+use Rattle.mid_base.specs.declared.entries.Entry.TheVariants.{Cleared}
 use Rattle.mid_base.specs.declared.host_spec.CmdSpec.{CmdSpec}
 use Rattle.mid_base.specs.declared.host_spec.HostSpec.{HostSpec}
-use Rattle.mid_base.specs.declared.names.CmdId.{CmdId}
 use Rattle.mid_base.specs.declared.states.DeviceState.{DeviceState}
 use Rattle.mid_base.specs.declared.steps.Step.TheVariants as step
 use Rattle.mid_base.specs.Levels.{not_online, number}
-use Rattle.mid_base.specs.Past.{was_sent, sent_for}
 use Rattle.device_states.specs.States.{is_online_state}
-use Rattle.disposition.specs.declared.todo.Cx.{Cx}
 use Rattle.disposition.specs.declared.todo.Todo.{Todo}
 use Rattle.host_template.specs.Laws.{SilentLaw}
 use Rattle.host_template.specs.Standing.{Before, Standing}

@@ -92,9 +92,12 @@ fn one_todo(spec: &HostSpec, running: &Running, failed: FailedRow) -> Todo
 fn lost_of(alloc: Global, todo: &[Todo]) -> Result<Vec<Entry>, NoMemory>
     ensures { IfOk result (λ entries. entries.items ≡ lost_of todo.now) }
 {
-    let lost = todo.iter().filter(|x| !x.cx.online);
-    match lost.map(|x| Entry::Cleared(x.cmd, NOT_ONLINE)).collect(alloc) {
-        Ok(entries) => Ok(entries),
+    let cleared = todo
+        .iter()
+        .filter(|x| !x.cx.online)
+        .map(|x| Entry::Cleared(x.cmd, NOT_ONLINE));
+    match cleared.collect(alloc) {
+        Ok(cleared) => Ok(cleared),
         Err(_) => Err(NoMemory),
     }
 }

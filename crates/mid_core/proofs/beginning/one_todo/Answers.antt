@@ -1,4 +1,4 @@
-use Rattle.std.proofs.Common.{◌∙◌, ◌≡◌, sym, ap, length, is_some, Option, arith}
+use Rattle.std.proofs.Common.{◌∙◌, sym, ap, length, is_some, Option, arith}
 use Rattle.std.proofs.lemmas.Bool.{false≢true}
 use Rattle.attempt_table.specs.declared.rows.Row.{Row}
 use Rattle.mid_core.proofs.Begins.{has_row, todo_is}

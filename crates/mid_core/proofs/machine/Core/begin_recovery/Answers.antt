@@ -30,9 +30,11 @@ tell_all-requires-clause-runs g c =
     let spec = c.self.inside.spec in
     let P = reverse c.self.inside.book.entries in
     let todo : c.deref.result.now ≡ listed spec P = c.deref.ensures.value ∙ c.in_ok-todo.ensures P core.runs (each_of spec P core.legal) in
-    let cleared : c.deref-2.result.now ≡ lost_cleared spec P = c.deref-2.ensures.value ∙ c.in_ok-cleared.ensures ∙ lost_is spec P c.deref.result.now todo in
-    (EhBegin ∷ P, c.begin_recovery.ensures.runs spec P core.runs,
-    subst (λ (es : List Entry). AreTaken spec (EhBegin ∷ P) es) (sym cleared) (cleared_taken spec (EhBegin ∷ P) (number not_online) (filter (is_lost spec P) (listed spec P))))
+    let cleared : c.deref-2.result.now ≡ lost_cleared spec P = c.deref-2.ensures.value ∙ c.in_ok-cleared.ensures ∙ lost_is spec P c.deref.result.now todo in (
+      EhBegin ∷ P,
+      c.begin_recovery.ensures.runs spec P core.runs,
+      subst (λ (es : List Entry). AreTaken spec (EhBegin ∷ P) es) (sym cleared) (cleared_taken spec (EhBegin ∷ P) (number not_online) (filter (is_lost spec P) (listed spec P))),
+    )
 
 pub invariant_of-self-2 : goal.invariant_of-self-2
 invariant_of-self-2 g c =
