@@ -7,3 +7,4 @@ pub mod Groups
 pub mod Staged
 pub mod Growing
 pub mod Acted
+pub mod Begins

@@ -1,10 +1,11 @@
-ghost use Rattle.std.specs.Prelude.{◌≡◌, List, map, IfOk, filter};
+ghost use Rattle.std.specs.Prelude.{◌≡◌, List, IfOk};
 ghost use Rattle.mid_base.specs.declared.entries.Entry.{Entry as EntrySeen};
 ghost use Rattle.mid_base.specs.declared.steps.Step.TheVariants as steps;
 ghost use Rattle.host_state.specs.HostAgrees.{HostAgrees};
-ghost use Rattle.trace_model.specs.Recovery.{listed};
-ghost use Rattle.mid_core.specs.Choices.{IsRunning};
+ghost use Rattle.trace_model.specs.Legal.{EachStands};
+ghost use Rattle.trace_model.specs.Recovery.{Failure, listed, todo_of as todo_seen};
 ghost use Rattle.mid_core.specs.Recovering.{lost_of};
+ghost use Rattle.mid_core.specs.Failures.{IsFailure};
 
 use crate::Core;
 use crate::telling::tell_all;
@@ -51,8 +52,8 @@ impl<A: HostTemplate> Core<A> {
 
 // What recovery has to do with: each failed command, in the order in which they failed.
 fn todo_of(alloc: Global, spec: &HostSpec, running: &Running) -> Result<Vec<Todo>, NoMemory>
-    requires runs { IsRunning spec.now running.now }
-    ensures { IfOk result (λ todo. (P : List EntrySeen) → HostAgrees spec.now P running.now → todo.items ≡ listed spec.now P) }
+    requires { (P : List EntrySeen) × HostAgrees spec.now P running.now × EachStands spec.now P }
+    ensures { IfOk result (λ todo. (P : List EntrySeen) → HostAgrees spec.now P running.now → EachStands spec.now P → todo.items ≡ listed spec.now P) }
 {
     let failed = running.failed();
     let mut todo = Vec::with_capacity(alloc, failed.len()).map_err(|_| NoMemory)?;
@@ -63,7 +64,10 @@ fn todo_of(alloc: Global, spec: &HostSpec, running: &Running) -> Result<Vec<Todo
 }
 
 // What recovery has to do with a failed command.
-fn one_todo(spec: &HostSpec, running: &Running, failed: FailedRow) -> Todo {
+fn one_todo(spec: &HostSpec, running: &Running, failed: FailedRow) -> Todo
+    requires { (P : List EntrySeen) × (f : Failure) × IsFailure spec.now P running.now f failed }
+    ensures { (P : List EntrySeen) (f : Failure) → IsFailure spec.now P running.now f failed → result ≡ todo_seen spec.now P f }
+{
     let Some(row) = running.attempt(failed.attempt) else {
         unreachable!()
     };
@@ -88,11 +92,12 @@ fn one_todo(spec: &HostSpec, running: &Running, failed: FailedRow) -> Todo {
 fn lost_of(alloc: Global, todo: &[Todo]) -> Result<Vec<Entry>, NoMemory>
     ensures { IfOk result (λ entries. entries.items ≡ lost_of todo.now) }
 {
-    let mut entries = Vec::with_capacity(alloc, todo.len()).map_err(|_| NoMemory)?;
-    for x in todo {
-        if !x.cx.online {
-            entries.push_reserved(Entry::Cleared(x.cmd, NOT_ONLINE));
-        }
+    let cleared = todo
+        .iter()
+        .filter(|x| !x.cx.online)
+        .map(|x| Entry::Cleared(x.cmd, NOT_ONLINE));
+    match cleared.collect(alloc) {
+        Ok(cleared) => Ok(cleared),
+        Err(_) => Err(NoMemory),
     }
-    Ok(entries)
 }
