@@ -28,9 +28,9 @@ abbrev pub IsStaged : HostSpec → List Entry → Option Climb → Type 0
 IsStaged s P None = has_begun P ≡ false
 IsStaged s P (Some k) = (has_begun P ≡ true) × IsLadderOf s P k
 
--- P is the journal, the newest entry first
-pub record IsCore {A : Type 0} (stands : A → Standing) (spec : HostSpec) (before : Before) (lower : A) (P : List Entry) (running : Running) (ladder : Option Climb) (probes : List ℕ)
-    : Type 0 where
+-- P is the journal, the newest entry first; the ladder is that of recovery, and probes the bytes that its probes are read into
+pub record IsCore {A : Type 0} (stands : A → Standing) (spec : HostSpec) (before : Before) (lower : A) (P : List Entry) (running : Running)
+    (ladder : Option Climb) (probes : List ℕ) : Type 0 where
   pub legal : ByGroups spec P
   pub stood : stands lower spec before P
   pub runs : HostAgrees spec P running

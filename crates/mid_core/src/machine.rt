@@ -20,7 +20,8 @@ use std::alloc::Global;
 use std::marker::Model;
 use trace_model::Booked;
 
-/// The longest answer to a probe, that of REPORT LUNS for 256 units: 8 bytes for each and a header of 8 (SPC-4, 6.33).
+// The most that a probe brings: the list of 256 logical units that REPORT LUNS is asked for (SPC-4, 6.33), 8 bytes for each after a
+// header of 8.
 const PROBE_BYTES: usize = 2056;
 
 /// The core of one host over its lower layer.
