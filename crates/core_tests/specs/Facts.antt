@@ -7,7 +7,7 @@ use Rattle.mid_base.specs.declared.entries.Entry.{Entry}
 use Rattle.mid_base.specs.declared.entries.Entry.TheVariants.{Sent, Bounced, Told}
 use Rattle.mid_base.specs.declared.names.Attempt.{Attempt}
 use Rattle.mid_base.specs.declared.steps.Step.{Step}
-use Rattle.mid_base.specs.declared.steps.Step.TheVariants.{Submit, Work, Due, Drop, Abort, Tick, SetState}
+use Rattle.mid_base.specs.declared.steps.Step.TheVariants.{Submit, Work, Due, Drop, Abort, EhBegin, EhAct, EhFlush, EhEnd, Tick, SetState}
 use Rattle.mid_base.specs.declared.steps.Did.{Did}
 use Rattle.mid_base.specs.declared.steps.Did.TheVariants.{Done}
 use Rattle.trace_model.specs.Attempts.{attempts}
@@ -58,6 +58,10 @@ MovesNoTag Work = Unit {0}
 MovesNoTag Due = Unit {0}
 MovesNoTag (Drop n) = Unit {0}
 MovesNoTag Abort = Unit {0}
+MovesNoTag EhBegin = Unit {0}
+MovesNoTag EhAct = Unit {0}
+MovesNoTag EhFlush = Unit {0}
+MovesNoTag EhEnd = Unit {0}
 MovesNoTag Tick = Unit {0}
 MovesNoTag (SetState dev state) = Unit {0}
 MovesNoTag step = ⊥

@@ -39,7 +39,7 @@ pub(crate) fn core_of(alloc: Global, text: &str) -> Result<Core<DebugAdapter>, F
     Ok(simulated_core(alloc, host)?)
 }
 
-// Makes a step of those that there are as yet.
+// Makes a step, by the call that says what becomes of the tags.
 pub(crate) fn make<A: HostTemplate>(core: &mut Core<A>, step: Step) -> Result<Did, NoMemory> {
     match step {
         Step::Submit(lane) => made_no_tag_step(core, Step::Submit(lane)),
@@ -49,10 +49,13 @@ pub(crate) fn make<A: HostTemplate>(core: &mut Core<A>, step: Step) -> Result<Di
         Step::Due => made_no_tag_step(core, Step::Due),
         Step::Drop(n) => made_no_tag_step(core, Step::Drop(n)),
         Step::Abort => made_no_tag_step(core, Step::Abort),
+        Step::EhBegin => made_no_tag_step(core, Step::EhBegin),
+        Step::EhAct => made_no_tag_step(core, Step::EhAct),
+        Step::EhFlush => made_no_tag_step(core, Step::EhFlush),
+        Step::EhEnd => made_no_tag_step(core, Step::EhEnd),
         Step::Send => sent(core),
         Step::Own(n, by) => gave(core, n, by),
         Step::Settle(n) => settled(core, n),
-        _ => Ok(Did::Skipped(Why::Spent)),
     }
 }
 

@@ -6,11 +6,9 @@ use Rattle.std.proofs.lemmas.List.{reverse-append, append-nil}
 use Rattle.std.proofs.lemmas.List.Quantifiers.{position-Some}
 use Rattle.std.proofs.lemmas.Option.{slice_get-get_or}
 use Rattle.std.proofs.Math.Seq.{map-set_same}
-use Rattle.mid_base.specs.declared.answers.By.TheVariants as owners
 use Rattle.mid_base.specs.declared.entries.Entry.{Entry}
 use Rattle.mid_base.specs.declared.names.HostNo.{HostNo}
 use Rattle.mid_base.specs.declared.steps.Step.{Step}
-use Rattle.mid_base.specs.declared.steps.Step.TheVariants as step
 use Rattle.mid_base.specs.declared.steps.Why.{Why}
 use Rattle.mid_base.specs.declared.host_spec.HostSpec.{HostSpec}
 use Rattle.mid_base.specs.declared.steps.Did.{Did}
@@ -22,30 +20,12 @@ use Rattle.debug_adapter.specs.declared.adapter.DebugAdapter.{DebugAdapter}
 use Rattle.debug_adapter.specs.Adapter.{AdapterStands}
 use Rattle.trace_model.specs.Legal.{onto}
 use Rattle.trace_model.proofs.Making.{onto-reverse}
-use Rattle.mid_core.specs.View.{CoreView, IsBuilt}
+use Rattle.mid_core.specs.View.{CoreView}
 use Rattle.mid_core.specs.Steps.{Answers}
-use Rattle.script_text.specs.Playable.{IsStepOn, IsStepOnSome}
+use Rattle.script_text.specs.Playable.{IsStepOnSome}
 use Rattle.script_text.specs.Said.{host_of}
 use Rattle.play_top.proofs.Due.{due_is}
 use Rattle.play_top.specs.Played.{Comes, ComesOn, HostRun, Plays, is_named, skip_of, specs_of}
-
-built_on : (h : HostSpec) (t : Step) → IsStepOn h t → IsBuilt t
-built_on h (step.Submit lane) is = tt
-built_on h step.Send is = tt
-built_on h step.Work is = tt
-built_on h step.Due is = tt
-built_on h (step.Own n by) is = tt
-built_on h (step.Settle n) is = tt
-built_on h (step.Drop n) is = tt
-built_on h step.Abort is = tt
-built_on h step.Tick is = tt
-built_on h (step.SetState d x) is = tt
-built_on h t is = absurd is
-
--- each step that a script can say is one that there is
-pub built : (o : Option HostSpec) (t : Step) → IsStepOnSome o t → IsBuilt t
-built None t is = absurd is
-built (Some h) t is = built_on h t is
 
 absent : (n : ℕ) (runs : List HostRun) (t : Step) → IsStepOnSome (host_of (specs_of runs) n) t → length runs ≤ position_or_len (is_named n) runs → ⊥
 absent n [] t is le = absurd is

@@ -24,7 +24,6 @@ impl Model for Host {
 impl Host {
     ghost use Rattle.std.specs.Prelude.{◌≡◌, [], reverse, IfOk};
     ghost use Rattle.mid_base.specs.Limits.{KeepsLimits};
-    ghost use Rattle.mid_core.specs.View.{IsBuilt};
     ghost use Rattle.play_top.specs.Played.{Comes, IsRun, unplayed};
 
     /// A host to which nothing has happened yet.
@@ -53,7 +52,6 @@ impl Host {
 
     /// Makes one step, and says why it was skipped.
     pub fn make(&mut self, step: Step) -> Result<Option<Why>, NoMemory>
-        requires { IsBuilt step }
         ensures comes { IfOk result (λ why. Comes self.old.spec self.old.entries step why self.new.entries) }
         ensures spec { IfOk result (λ why. self.new.spec ≡ self.old.spec) }
     {
