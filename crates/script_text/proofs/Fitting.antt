@@ -9,14 +9,16 @@ use Rattle.script_words.specs.declared.kind.Kind.{Kind}
 use Rattle.script_words.specs.declared.kind.Kind.TheVariants as kinds
 use Rattle.script_words.specs.declared.keywords.StepName.{StepName}
 use Rattle.script_words.specs.declared.keywords.StepName.TheVariants as names
+use Rattle.script_words.specs.declared.keywords.EhName.{EhName}
+use Rattle.script_words.specs.declared.keywords.EhName.TheVariants as recovery
 use Rattle.script_words.specs.Pieces.{number, value}
 use Rattle.script_words.specs.Words.{address, address_value}
 use Rattle.script_words.specs.Hex.{hex_bytes, bytes_value, cdb_of}
-use Rattle.script_words.specs.Keywords.{step_name}
+use Rattle.script_words.specs.Keywords.{step_name, eh_name}
 use Rattle.script_words.specs.Faults.{unless_true, form_and_range, number_fault, address_fault, bytes_fault}
 use Rattle.script_text.specs.Said.{Said, passes, host_of, is_unit, is_lane, is_id}
 use Rattle.script_text.specs.Slots.{Slot, AnyStep, or_else, host_fault, new_host_fault, roomy_host_fault, new_unit_fault, unit_fault, new_command_fault, lane_fault, slot_fault, named, behind, end_fault, first_fault, step_slots}
-use Rattle.script_text.specs.Adds.{step_of, step_in}
+use Rattle.script_text.specs.Adds.{eh_step, step_of, step_in}
 use Rattle.script_text.specs.Playable.{IsStepOn, IsStepOnSome}
 use Rattle.script_words.proofs.Packed.{cdb_read}
 use Rattle.script_text.proofs.Grown.{true_not}
@@ -110,6 +112,13 @@ below n m e some = omega (arith, leb-true n (m - 1) e)
 attempt_fits : (word : List ℕ) → number_fault 0 last_number word ≡ None → value word < 2 ^ 60
 attempt_fits word e = below (value word) (2 ^ 60) (number_below 0 last_number word e) (lit< tt)
 
+eh_is_on : (h : HostSpec) (name : EhName) → IsStepOn h (eh_step name)
+unfolding eh_step
+eh_is_on h recovery.Begin = tt
+eh_is_on h recovery.Act = tt
+eh_is_on h recovery.Flush = tt
+eh_is_on h recovery.End = tt
+
 step_of_fits : (name : Option StepName) (said : Said) (h : HostSpec) (rest : List (List ℕ)) → unless_true kinds.Word (is_some name) ≡ None → Fits said (Some h) (step_slots name) rest → IsStepOn h (step_of name rest)
 step_of_fits None said h rest e f = absurd (cc)
 step_of_fits (Some names.Submit) said h [] e f = absurd (cc)
@@ -125,6 +134,8 @@ step_of_fits (Some names.Settle) said h (attempt ∷ rest) e f = attempt_fits at
 step_of_fits (Some names.Drop) said h [] e f = absurd (cc)
 step_of_fits (Some names.Drop) said h (attempt ∷ rest) e f = attempt_fits attempt f.0
 step_of_fits (Some names.Abort) said h rest e f = tt
+step_of_fits (Some names.Eh) said h [] e f = absurd (cc)
+step_of_fits (Some names.Eh) said h (name ∷ rest) e f = eh_is_on h (unwrap_or (eh_name name) recovery.Begin)
 step_of_fits (Some names.Tick) said h rest e f = tt
 step_of_fits (Some names.State) said h [] e f = absurd (cc)
 step_of_fits (Some names.State) said h (unit ∷ []) e f = absurd (let g = f.1 in cc g)

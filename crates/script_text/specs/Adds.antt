@@ -13,14 +13,23 @@ use Rattle.script_words.specs.declared.keywords.Keyword.{Keyword}
 use Rattle.script_words.specs.declared.keywords.Keyword.TheVariants as lines
 use Rattle.script_words.specs.declared.keywords.StepName.{StepName}
 use Rattle.script_words.specs.declared.keywords.StepName.TheVariants as names
+use Rattle.script_words.specs.declared.keywords.EhName.{EhName}
+use Rattle.script_words.specs.declared.keywords.EhName.TheVariants as recovery
 use Rattle.script_words.specs.declared.plan_kinds.PlanKind.{PlanKind}
 use Rattle.script_words.specs.declared.plan_kinds.PlanKind.TheVariants as plans
 use Rattle.script_words.specs.Pieces.{value}
 use Rattle.script_words.specs.Hex.{bytes_value, byte_value, half_value, cdb_of, sense_of}
 use Rattle.script_words.specs.Words.{handlers_value, address_value}
-use Rattle.script_words.specs.Keywords.{step_name, plan_kind, owner, state, failfast}
+use Rattle.script_words.specs.Keywords.{step_name, eh_name, plan_kind, owner, state, failfast}
 use Rattle.script_text.specs.Said.{Said, on_host, with_unit, with_planned, with_command}
 use Rattle.script_text.specs.Slots.{is_read_only, is_stopped}
+
+-- the step of recovery that has this name
+unfoldable pub eh_step : EhName → Step
+eh_step recovery.Begin = steps.EhBegin
+eh_step recovery.Act = steps.EhAct
+eh_step recovery.Flush = steps.EhFlush
+eh_step recovery.End = steps.EhEnd
 
 -- the step that these words name
 abbrev pub step_of : Option StepName → List (List ℕ) → Step
@@ -32,6 +41,7 @@ step_of (Some names.Own) (attempt ∷ name ∷ rest) = steps.Own (record { 0 = v
 step_of (Some names.Settle) (attempt ∷ rest) = steps.Settle (record { 0 = value attempt })
 step_of (Some names.Drop) (attempt ∷ rest) = steps.Drop (record { 0 = value attempt })
 step_of (Some names.Abort) rest = steps.Abort
+step_of (Some names.Eh) (name ∷ rest) = eh_step (unwrap_or (eh_name name) recovery.Begin)
 step_of (Some names.State) (unit ∷ name ∷ rest) = steps.SetState (address_value unit) (unwrap_or (state name) Running)
 step_of _ _ = steps.Tick
 

@@ -6,23 +6,18 @@ use Rattle.mid_base.specs.Address.{has_dev}
 use Rattle.mid_base.specs.declared.host_spec.HostSpec.{HostSpec}
 use Rattle.mid_base.specs.declared.names.HostNo.{HostNo}
 use Rattle.mid_base.specs.declared.steps.Step.{Step}
-use Rattle.mid_base.specs.declared.steps.Step.TheVariants.{Submit, Send, Work, Due, Own, Settle, Drop, Abort, Tick, SetState}
+use Rattle.mid_base.specs.declared.steps.Step.TheVariants.{Submit, Own, Settle, Drop, SetState}
 use Rattle.script_text.specs.declared.script.Script.{Script}
 use Rattle.script_text.specs.Said.{host_of, has_lane}
 
--- a step of a kind that a script may name, for this host: a lane has commands, a device is one of its units
+-- what a step names is of this host: a lane has commands, a device is one of its units; and attempts have numbers
 abbrev pub IsStepOn : HostSpec → Step → Type 0
 IsStepOn h (Submit lane) = has_lane h.cmds lane.0 ≡ true
-IsStepOn h Send = Unit {0}
-IsStepOn h Work = Unit {0}
-IsStepOn h Due = Unit {0}
 IsStepOn h (Own n by) = n.0 < 2 ^ 60
 IsStepOn h (Settle n) = n.0 < 2 ^ 60
 IsStepOn h (Drop n) = n.0 < 2 ^ 60
-IsStepOn h Abort = Unit {0}
-IsStepOn h Tick = Unit {0}
 IsStepOn h (SetState dev state) = has_dev h.luns dev ≡ true
-IsStepOn h _ = ⊥
+IsStepOn h _ = Unit {0}
 
 -- the host of a step is one of these, and the step is one on it
 abbrev pub IsStepOnSome : Option HostSpec → Step → Type 0

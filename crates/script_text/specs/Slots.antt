@@ -1,5 +1,5 @@
 -- Which words may stand behind the first one of a line, and what is wrong with others.
-use Rattle.std.specs.Prelude.{ℕ, ◌^◌, ◌-◌, nat_lt, Bool, true, false, not, ◌||◌, if◌then◌else◌, List, [], ◌∷◌, length, Option, Some, None, is_some, codes}
+use Rattle.std.specs.Prelude.{ℕ, nat_lt, Bool, true, false, not, ◌||◌, if◌then◌else◌, List, [], ◌∷◌, length, Option, Some, None, is_some, codes}
 use Rattle.std.specs.Str.{bytes_eq}
 use Rattle.mid_base.specs.Limits.{last_number}
 use Rattle.mid_base.specs.declared.host_spec.HostSpec.{HostSpec}
@@ -14,7 +14,7 @@ use Rattle.script_words.specs.declared.kind.Kind.TheVariants as kinds
 use Rattle.script_words.specs.Pieces.{value}
 use Rattle.script_words.specs.Hex.{hex_byte, hex_half}
 use Rattle.script_words.specs.Words.{handlers, address_value}
-use Rattle.script_words.specs.Keywords.{step_name, plan_kind, owner, state, failfast}
+use Rattle.script_words.specs.Keywords.{step_name, eh_name, plan_kind, owner, state, failfast}
 use Rattle.script_words.specs.Faults.{unless_true, number_fault, address_fault, bytes_fault, choice_fault, text_fault}
 use Rattle.script_text.specs.Said.{Said, passes, host_of, is_unit, is_lane, is_id}
 
@@ -38,6 +38,7 @@ pub data Slot : Type 0 where
   Fill : Slot  -- two hexadecimal digits; the line may end here
   AnyFault : Slot  -- the name of a planned fault
   AnyStep : Slot  -- the name of a step
+  AnyEh : Slot  -- the name of a step of recovery
   AnyOwner : Slot  -- whom an attempt is given to
   AnyState : Slot  -- the name of a state of a device
   Exactly : List ℕ → Slot  -- this word
@@ -72,6 +73,7 @@ step_slots (Some names.Submit) = KnownLane ∷ []
 step_slots (Some names.Own) = Number 0 last_number ∷ AnyOwner ∷ []
 step_slots (Some names.Settle) = Number 0 last_number ∷ []
 step_slots (Some names.Drop) = Number 0 last_number ∷ []
+step_slots (Some names.Eh) = AnyEh ∷ []
 step_slots (Some names.State) = KnownUnit ∷ AnyState ∷ []
 step_slots _ = []
 
@@ -140,6 +142,7 @@ slot_fault said host Half word = choice_fault kinds.Hex hex_half word
 slot_fault said host Fill word = choice_fault kinds.Hex hex_byte word
 slot_fault said host AnyFault word = choice_fault kinds.Word plan_kind word
 slot_fault said host AnyStep word = choice_fault kinds.Word step_name word
+slot_fault said host AnyEh word = choice_fault kinds.Word eh_name word
 slot_fault said host AnyOwner word = choice_fault kinds.Word owner word
 slot_fault said host AnyState word = choice_fault kinds.Word state word
 slot_fault said host (Exactly text) word = text_fault text word

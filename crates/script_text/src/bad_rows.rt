@@ -232,7 +232,7 @@ pub const COMMAND_LINES: [(&str, u8); 35] = [
 ];
 
 /// Fourth lines, behind the same and command 1 of lane 0.
-pub const STEP_LINES: [(&str, u8); 47] = [
+pub const STEP_LINES: [(&str, u8); 51] = [
     ("step", 3),
     ("step x", 2),
     ("step 64", 8),
@@ -241,8 +241,12 @@ pub const STEP_LINES: [(&str, u8); 47] = [
     ("step 0 foo", 1),
     ("step 0 Send", 1),
     ("step 0 Due", 1),
-    ("step 0 eh begin", 1),
-    ("step 0 eh", 1),
+    ("step 0 begin", 1),
+    ("step 0 eh", 3),
+    ("step 0 eh x", 1),
+    ("step 0 eh Begin", 1),
+    ("step 0 eh begin x", 4),
+    ("step 0 eh end 1", 4),
     ("step 0 send now", 4),
     ("step 0 work x", 4),
     ("step 0 due 1", 4),

@@ -175,6 +175,10 @@ fn each_state_and_step_is_said(rt: HostRuntime) -> Result<(), Fail> {
             Step::Drop(Attempt(1_152_921_504_606_846_975)),
         ),
         ("abort", Step::Abort),
+        ("eh begin", Step::EhBegin),
+        ("eh act", Step::EhAct),
+        ("eh flush", Step::EhFlush),
+        ("eh end", Step::EhEnd),
         ("tick", Step::Tick),
         (
             "state 0:0:1 running",

@@ -1,12 +1,14 @@
+ghost use Rattle.std.specs.Prelude.{◌≡◌};
 ghost use Rattle.script_words.specs.Pieces.{words};
 ghost use Rattle.script_text.specs.Said.{Said};
+ghost use Rattle.script_text.specs.Adds.{eh_step};
 ghost use Rattle.script_text.specs.Gives.{LastGives, StepGives};
 
 use crate::ends::no_more;
 use crate::host_draft::HostDraft;
 use crate::names::{attempt_in, lane_in, unit_in};
 use mid_base::{Attempt, LaneNo, Step};
-use script_words::{Kind, StepName, Words, owner_in, state_in, step_name_in};
+use script_words::{EhName, Kind, StepName, Words, eh_name_in, owner_in, state_in, step_name_in};
 
 /// The step of this host that these words name.
 pub fn step_in(host: &HostDraft, rest: Words) -> Result<Step, Kind>
@@ -35,12 +37,29 @@ pub fn step_in(host: &HostDraft, rest: Words) -> Result<Step, Kind>
             last(words, Step::Drop(Attempt(attempt)))
         }
         StepName::Abort => last(words, Step::Abort),
+        StepName::Eh => {
+            let name = eh_name_in(words.next())?;
+            last(words, eh_step(name))
+        }
         StepName::Tick => last(words, Step::Tick),
         StepName::State => {
             let dev = unit_in(host, words.next())?;
             let state = state_in(words.next())?;
             last(words, Step::SetState(dev, state))
         }
+    }
+}
+
+/// The step of recovery that has this name.
+#[tactic(auto, unfolding(crate::specs::Adds::eh_step))]
+fn eh_step(name: EhName) -> Step
+    ensures { result ≡ eh_step name }
+{
+    match name {
+        EhName::Begin => Step::EhBegin,
+        EhName::Act => Step::EhAct,
+        EhName::Flush => Step::EhFlush,
+        EhName::End => Step::EhEnd,
     }
 }
 

@@ -9,6 +9,8 @@ use Rattle.script_words.specs.declared.keywords.Keyword.{Keyword}
 use Rattle.script_words.specs.declared.keywords.Keyword.TheVariants as lines
 use Rattle.script_words.specs.declared.keywords.StepName.{StepName}
 use Rattle.script_words.specs.declared.keywords.StepName.TheVariants as steps
+use Rattle.script_words.specs.declared.keywords.EhName.{EhName}
+use Rattle.script_words.specs.declared.keywords.EhName.TheVariants as recovery
 use Rattle.script_words.specs.declared.plan_kinds.PlanKind.{PlanKind}
 use Rattle.script_words.specs.declared.plan_kinds.PlanKind.TheVariants as plans
 
@@ -40,8 +42,18 @@ step_name word =
     else if bytes_eq word (codes "settle") then Some steps.Settle
     else if bytes_eq word (codes "drop") then Some steps.Drop
     else if bytes_eq word (codes "abort") then Some steps.Abort
+    else if bytes_eq word (codes "eh") then Some steps.Eh
     else if bytes_eq word (codes "tick") then Some steps.Tick
     else if bytes_eq word (codes "state") then Some steps.State
+    else None
+
+-- the word that names a step of recovery
+unfoldable pub eh_name : List ℕ → Option EhName
+eh_name word =
+    if bytes_eq word (codes "begin") then Some recovery.Begin
+    else if bytes_eq word (codes "act") then Some recovery.Act
+    else if bytes_eq word (codes "flush") then Some recovery.Flush
+    else if bytes_eq word (codes "end") then Some recovery.End
     else None
 
 -- the word that names whom an attempt is given to

@@ -1,5 +1,5 @@
 ghost use Rattle.std.specs.Prelude.{◌≡◌};
-ghost use Rattle.script_words.specs.Keywords.{keyword, step_name, owner, state, failfast};
+ghost use Rattle.script_words.specs.Keywords.{keyword, step_name, eh_name, owner, state, failfast};
 
 use mid_base::{By, DeviceState};
 
@@ -26,8 +26,18 @@ pub enum StepName {
     Settle,
     Drop,
     Abort,
+    Eh,
     Tick,
     State,
+}
+
+/// The steps of recovery, which the word behind `eh` tells.
+#[derive(Clone, Copy, PartialEq, Eq, Debug)]
+pub enum EhName {
+    Begin,
+    Act,
+    Flush,
+    End,
 }
 
 /// The kind of line that begins with this word.
@@ -88,11 +98,34 @@ pub fn step_name_of(word: &[u8]) -> Option<StepName>
     if word == b"abort".as_slice() {
         return Some(StepName::Abort);
     }
+    if word == b"eh".as_slice() {
+        return Some(StepName::Eh);
+    }
     if word == b"tick".as_slice() {
         return Some(StepName::Tick);
     }
     if word == b"state".as_slice() {
         return Some(StepName::State);
+    }
+    None
+}
+
+/// The step of recovery that this word names.
+#[tactic(auto, unfolding(crate::specs::Keywords::eh_name))]
+pub fn eh_name_of(word: &[u8]) -> Option<EhName>
+    ensures { result ≡ eh_name word.now }
+{
+    if word == b"begin".as_slice() {
+        return Some(EhName::Begin);
+    }
+    if word == b"act".as_slice() {
+        return Some(EhName::Act);
+    }
+    if word == b"flush".as_slice() {
+        return Some(EhName::Flush);
+    }
+    if word == b"end".as_slice() {
+        return Some(EhName::End);
     }
     None
 }

@@ -2,13 +2,15 @@ ghost use Rattle.std.specs.Prelude.{◌≡◌, Some};
 ghost use Rattle.script_words.specs.Pieces.{number};
 ghost use Rattle.script_words.specs.Hex.{hex_byte, hex_half};
 ghost use Rattle.script_words.specs.Words.{address, handlers};
-ghost use Rattle.script_words.specs.Keywords.{step_name, plan_kind, owner, state, failfast};
+ghost use Rattle.script_words.specs.Keywords.{step_name, eh_name, plan_kind, owner, state, failfast};
 ghost use Rattle.script_words.specs.Faults.{Gives, number_fault, address_fault, choice_fault, text_fault};
 
 use crate::address::address_parts;
 use crate::handlers::handlers_of;
 use crate::hex::{hex_byte, hex_half};
-use crate::keywords::{StepName, failfast_of, owner_of, state_of, step_name_of};
+use crate::keywords::{
+    EhName, StepName, eh_name_of, failfast_of, owner_of, state_of, step_name_of,
+};
 use crate::kind::Kind;
 use crate::number::number;
 use crate::plan_kinds::{PlanKind, plan_kind_of};
@@ -90,6 +92,19 @@ pub fn step_name_in(word: Option<&[u8]>) -> Result<StepName, Kind>
         return Err(Kind::Missing);
     };
     match step_name_of(word) {
+        None => Err(Kind::Word),
+        Some(name) => Ok(name),
+    }
+}
+
+/// The next word as the name of a step of recovery.
+pub fn eh_name_in(word: Option<&[u8]>) -> Result<EhName, Kind>
+    ensures { Gives (choice_fault Kind.Word eh_name) eh_name word.entry result }
+{
+    let Some(word) = word else {
+        return Err(Kind::Missing);
+    };
+    match eh_name_of(word) {
         None => Err(Kind::Word),
         Some(name) => Ok(name),
     }
