@@ -8,6 +8,8 @@ mod host;
 mod playing;
 mod reading;
 #[cfg(test)]
+mod recovery_rows;
+#[cfg(test)]
 mod rows;
 mod status;
 #[cfg(test)]

@@ -1,4 +1,5 @@
 use crate::barred_rows::BARRED;
+use crate::recovery_rows::RECOVERIES;
 use crate::rows::{ENDS, FIRST, PLAYED};
 use crate::timeout_rows::TIMEOUTS;
 use crate::{Status, play};
@@ -43,6 +44,15 @@ fn scripts_with_timeouts_are_played(rt: HostRuntime) -> Result<(), Fail> {
 #[test]
 fn scripts_with_barred_steps_are_played(rt: HostRuntime) -> Result<(), Fail> {
     for (script, text) in BARRED {
+        let (_, written) = ends(rt.alloc(), script, 0, 0)?;
+        assert_eq!(rt; written.as_slice(), text.as_bytes(), "the text of {script}");
+    }
+    Ok(())
+}
+
+#[test]
+fn scripts_with_recovery_are_played(rt: HostRuntime) -> Result<(), Fail> {
+    for (script, text) in RECOVERIES {
         let (_, written) = ends(rt.alloc(), script, 0, 0)?;
         assert_eq!(rt; written.as_slice(), text.as_bytes(), "the text of {script}");
     }
