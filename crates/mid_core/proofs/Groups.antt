@@ -159,6 +159,9 @@ pub enters_owned : (n : Attempt) (by : By) → list_all (may_enter (step.Own n b
 enters_owned n ByAnswer = rw (same n.0) refl
 enters_owned n ByExpiry = rw (same n.0) refl
 
+pub enters_late : (n : Attempt) → list_all (may_enter (step.Drop n)) (entry.Late n ∷ []) ≡ true
+enters_late n = rw (same n.0) refl
+
 -- an attempt that isn't open can't be owned, nor one that has no cause for it
 module _ (s : HostSpec) (P : List Entry) (r : Running) (runs : HostAgrees s P r) (n : Attempt) (by : By) where
   pub not_open_bars : open_in (row_of n.0 r.attempts.rows.items) ≡ false → (due : Bool) → barred s due P (step.Own n by) ≡ Some NotOpen
@@ -266,8 +269,8 @@ pub expired_enters : (s : HostSpec) (P : List Entry) (c : CmdId) (n : Attempt) �
 expired_enters s P c n = by_left (has_abort_left s P c.0)
   where
     by_left : (b : Bool) → list_all (may_enter (step.Settle n)) (cond b (entry.AbortSet c n) (entry.Failed c n true) ∷ []) ≡ true
-    by_left true = refl
-    by_left false = refl
+    by_left true = rw (same n.0) refl
+    by_left false = rw (same n.0) refl
 
 -- the lower layer was asked about an attempt whose time is up
 module _ (s : HostSpec) (P : List Entry) (n : Attempt) (asked : may_ask s P n.0 ≡ true) where
@@ -433,6 +436,13 @@ opens_state s P d x = rw (same d.channel, same d.target, same d.lun) (by x)
     by device.Cancel = refl
     by device.Del = refl
 
+pub enters_state : (s : HostSpec) (P : List Entry) (d : DevAddr) (x : DeviceState) → list_all (may_enter (step.SetState d x)) (entry.State d x ∷ []) ≡ true
+enters_state s P d x = alone _ (opens_state s P d x)
+  where
+    alone : (b : Bool) → b ≡ true → b && true ≡ true
+    alone true e = refl
+    alone false e = cc e
+
 -- what follows a judgement tells nothing of the lower layer, sends nothing and owns nothing
 pub follow_silent : (s : HostSpec) (c : CmdId) (n : Attempt) (a : Answer) (d : Disp) → IsSilent s (follow_of c n a d)
 follow_silent s c n a Success = tt
@@ -440,11 +450,11 @@ follow_silent s c n a Retry = tt
 follow_silent s c n a Requeue = tt
 follow_silent s c n a Fail = tt
 
-pub follow_enters : (c k : CmdId) (n m : Attempt) (a : Answer) (d e : Disp) → list_all (may_enter (step.Settle m)) (entry.Judged c n e ∷ follow_of k n a d ∷ []) ≡ true
-follow_enters c k n m a Success e = refl
-follow_enters c k n m a Retry e = refl
-follow_enters c k n m a Requeue e = refl
-follow_enters c k n m a Fail e = refl
+pub follow_enters : (c : CmdId) (n : Attempt) (a : Answer) (d : Disp) → list_all (may_enter (step.Settle n)) (entry.Judged c n d ∷ follow_of c n a d ∷ []) ≡ true
+follow_enters c n a Success = rw (same n.0) refl
+follow_enters c n a Retry = rw (same n.0) refl
+follow_enters c n a Requeue = rw (same n.0) refl
+follow_enters c n a Fail = rw (same n.0) refl
 
 -- a pair of states that isn't legal
 pub illegal_pair : (legal : Bool) (had asked : DeviceState) (x : Illegal DeviceState) → set_or_refuse legal had asked ≡ Err x → legal ≡ false

@@ -12,7 +12,9 @@ use Rattle.mid_base.specs.declared.steps.Step.{Step}
 use Rattle.mid_base.specs.declared.steps.Step.TheVariants as step
 use Rattle.mid_base.specs.declared.steps.Did.{Did}
 use Rattle.mid_base.specs.declared.steps.Did.TheVariants.{Done, Skipped}
+use Rattle.mid_base.specs.Address.{same_dev}
 use Rattle.mid_base.specs.Past.{ticks}
+use Rattle.device_states.specs.States.{same_state}
 use Rattle.host_template.specs.Standing.{Standing, Unchanged}
 use Rattle.trace_model.specs.Steps.{opens, same_owner, IsAdded, barred}
 use Rattle.mid_core.specs.View.{CoreView}
@@ -29,13 +31,42 @@ pub record AddsTo (spec : HostSpec) (due : Bool) (P : List Entry) (s : Step) (g 
   pub added : IsAdded spec P g
   pub free : barred spec due P s ≡ None
 
--- an attempt is sent by Send alone, and owned by that Own alone
+-- which step adds an entry: of attempts and devices, that of the step's own alone
 abbrev pub may_enter : Step → Entry → Bool
+may_enter (step.Submit lane) (entry.Took c) = true
+may_enter (step.Submit lane) (entry.Told c a) = true
 may_enter step.Send (entry.Sent c n t) = true
-may_enter s (entry.Sent c n t) = false
+may_enter step.Send (entry.Bounced c n why) = true
+may_enter step.Send (entry.Told c a) = true
+may_enter step.Work (entry.Ready n a) = true
+may_enter step.Due (entry.Due n) = true
+may_enter step.Due (entry.Longer n) = true
+may_enter step.Due (entry.DoneSaid n) = true
 may_enter (step.Own n by) (entry.Owned m who) = (m.0 == n.0) && same_owner who by
-may_enter s (entry.Owned m who) = false
-may_enter s e = true
+may_enter (step.Settle n) (entry.Judged c m d) = m.0 == n.0
+may_enter (step.Settle n) (entry.AbortSet c m) = m.0 == n.0
+may_enter (step.Settle n) (entry.Failed c m cancelled) = m.0 == n.0
+may_enter (step.Settle n) (entry.Again c counted) = true
+may_enter (step.Settle n) (entry.Told c a) = true
+may_enter (step.Drop n) (entry.Late m) = m.0 == n.0
+may_enter step.Abort (entry.Aborted c n ok) = true
+may_enter step.Abort (entry.Failed c n cancelled) = true
+may_enter step.Abort (entry.Again c counted) = true
+may_enter step.Abort (entry.Told c a) = true
+may_enter step.EhBegin entry.EhBegin = true
+may_enter step.EhBegin (entry.Cleared c level) = true
+may_enter step.EhAct (entry.Act level scope ok) = true
+may_enter step.EhAct (entry.Probe d code say) = true
+may_enter step.EhAct (entry.Sensed c n sense) = true
+may_enter step.EhAct (entry.Judged c n d) = true
+may_enter step.EhAct (entry.Offline d) = true
+may_enter step.EhAct (entry.Cleared c level) = true
+may_enter step.EhFlush (entry.Again c counted) = true
+may_enter step.EhFlush (entry.Told c a) = true
+may_enter step.EhEnd entry.EhEnd = true
+may_enter step.Tick entry.Tick = true
+may_enter (step.SetState d x) (entry.State e y) = same_dev e d && same_state y x
+may_enter s e = false
 
 -- how a step that added g changes the states of the tags: Send arms a free one, unless it was bounced; Own turns an armed
 -- one into an owned one; Settle frees an owned one; no other step changes any

@@ -1,7 +1,7 @@
 use Rattle.std.proofs.Common.{reverse, ◌∙◌, refl, [], ◌∷◌}
 use Rattle.mid_base.specs.declared.entries.Entry.TheVariants.{Late}
 use Rattle.mid_base.specs.Past.{ticks}
-use Rattle.mid_core.proofs.Groups.{same, group_late, nothing_bars_dropping}
+use Rattle.mid_core.proofs.Groups.{same, enters_late, group_late, nothing_bars_dropping}
 use Rattle.mid_core.proofs.Staged.{other_keeps}
 use Rattle.mid_core.proofs.Growing.{core_grows, added, back}
 use Rattle.mid_core.proofs.machine.Core.drop_late.Goals as goal
@@ -36,6 +36,6 @@ returns-clause-answer g c =
         added = group_late spec P c.args.n late;
         free = nothing_bars_dropping spec P c.args.n late (g.A.HostTemplate.is_due c.self.inside.lower (ticks P));
       };
-      enters = refl;
+      enters = enters_late c.args.n;
       tags = c.drop_late.ensures.shown;
     })

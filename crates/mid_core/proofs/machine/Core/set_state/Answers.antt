@@ -5,7 +5,7 @@ use Rattle.mid_base.specs.Past.{ticks}
 use Rattle.device_states.specs.States.{may_become}
 use Rattle.trace_model.specs.Devices.{state}
 use Rattle.mid_core.proofs.Known.{dev_within, dev_state}
-use Rattle.mid_core.proofs.Groups.{group_state, opens_state, nothing_bars_a_state, illegal_state, legal_pair, illegal_pair}
+use Rattle.mid_core.proofs.Groups.{enters_state, group_state, opens_state, nothing_bars_a_state, illegal_state, legal_pair, illegal_pair}
 use Rattle.mid_core.proofs.Staged.{calm_keeps, stage_calm}
 use Rattle.mid_core.proofs.Growing.{core_grows, added, back}
 use Rattle.mid_core.proofs.machine.Core.set_state.Goals as goal
@@ -67,6 +67,6 @@ returns-in_ok-reserve-in-Ok g c =
         added = group_state spec P c.args.dev c.args.state calm there.1 may;
         free = nothing_bars_a_state spec P c.args.dev c.args.state calm there.1 may (g.A.HostTemplate.is_due c.self.inside.lower (ticks P));
       };
-      enters = refl;
+      enters = enters_state spec P c.args.dev c.args.state;
       tags = c.set_state.ensures.shown;
     })

@@ -60,7 +60,7 @@ returns-in_ok-reserve-in-Some-Answered g c =
         added = group_judged spec P r core.runs n row a told.0 told.1 calm d (c.judge-disposition.ensures.disp P core.runs);
         free = nothing_bars_settling spec P r core.runs n row ByAnswer told.0 (g.A.HostTemplate.is_due c.self.inside.lower (ticks P));
       };
-      enters = follow_enters row.command row.command n n a d d;
+      enters = follow_enters row.command n a d;
       tags = (row.tag.0, ByAnswer, c.settle_by-follows.ensures.shown.0, c.settle_by-follows.ensures.shown.1);
     })
 
