@@ -6,3 +6,4 @@ pub mod Asked
 pub mod Groups
 pub mod Staged
 pub mod Growing
+pub mod Flushed
