@@ -1,5 +1,5 @@
 -- Recovery is done with its failed commands, and ends.
-use Rattle.std.proofs.Common.{◌≡◌, ◌≢◌, ◌∙◌, sym, ap, subst, refl, ℕ, zero, suc, ◌==◌, ◌<◌, Bool, true, false, not, ◌&&◌, cond, List, [], ◌∷◌, map, Option, None, Some, is_some, length, arith, ⊎_elim}
+use Rattle.std.proofs.Common.{◌≡◌, ◌≢◌, ◌∙◌, sym, ap, subst, refl, ℕ, ◌==◌, ◌<◌, Bool, true, false, not, cond, List, [], ◌∷◌, map, Option, None, Some, is_some, length, arith, ⊎_elim}
 use Rattle.std.specs.Prelude.{slice_get, count_by}
 use Rattle.std.specs.List.{list_all}
 use Rattle.std.proofs.lemmas.Bool.{eq-eqb, eqb-true, false≢true, cases_Bool}
@@ -22,8 +22,8 @@ use Rattle.done_flush.specs.declared.flush.Flush.TheVariants as flushes
 use Rattle.host_template.specs.Laws.{IsSilent}
 use Rattle.trace_model.specs.declared.standing.Standing.TheVariants.{Busy}
 use Rattle.trace_model.specs.Claims.{tag_for}
-use Rattle.trace_model.specs.Commands.{standing, is_busy, is_failed, retries}
-use Rattle.trace_model.specs.Devices.{has_begun, state, in_recovery}
+use Rattle.trace_model.specs.Commands.{standing, is_failed, retries}
+use Rattle.trace_model.specs.Devices.{has_begun, state}
 use Rattle.trace_model.specs.Flush.{is_empty, is_flushed, is_saved}
 use Rattle.trace_model.specs.Legal.{Group, EachStands}
 use Rattle.trace_model.specs.Names.{command, dev_of}

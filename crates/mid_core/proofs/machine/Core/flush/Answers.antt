@@ -1,4 +1,4 @@
-use Rattle.std.proofs.Common.{◌≡◌, ◌∙◌, reverse, sym, ap, subst, refl, [], ◌∷◌, List, Some}
+use Rattle.std.proofs.Common.{◌≡◌, ◌∙◌, reverse, sym, subst, refl, [], ◌∷◌, List, Some}
 use Rattle.std.specs.Prelude.{slice_get}
 use Rattle.mid_base.specs.declared.entries.Entry.{Entry}
 use Rattle.mid_base.specs.Past.{ticks}
