@@ -8,3 +8,4 @@ pub mod Staged
 pub mod Growing
 pub mod Acted
 pub mod Begins
+pub mod Flushed

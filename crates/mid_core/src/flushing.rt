@@ -57,7 +57,7 @@ impl<A: HostTemplate> Core<A> {
 // Enters into the running state what comes of the command that failed first, and gives the entry that says it.
 fn flush_first(spec: &HostSpec, running: &mut Running, failed: FailedRow) -> Entry
     requires { IsFirstFailed spec.now running.old failed }
-    ensures entry { (P : List EntrySeen) → HostAgrees spec.now P running.old → result ≡ flushed_entry spec.now P failed }
+    ensures entry { (P : List EntrySeen) → EachStands spec.now P → HostAgrees spec.now P running.old → result ≡ flushed_entry spec.now P failed }
     ensures runs { (P : List EntrySeen) → EachStands spec.now P → HostAgrees spec.now P running.old → HostAgrees spec.now (result ∷ P) running.new }
     ensures shown { running.new.attempts.tags.items ≡ running.old.attempts.tags.items }
 {
