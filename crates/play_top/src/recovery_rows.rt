@@ -865,7 +865,8 @@ result 1 answered 00 02 0 0 700006000000000a00000000290000000000 1
 end
 ";
 
-// On a host that makes no aborts outside recovery, recovery aborts: the attempt of a failfast command, which is then reported.
+// A host that makes no aborts outside recovery aborts within it, in the order in which its commands failed. One of them is failfast:
+// it isn't sent again.
 const ABORT_LEVEL: &str = "\
 host 0 4 a noasync
 lun 0 0:0:0 2048 8
