@@ -865,7 +865,8 @@ result 1 answered 00 02 0 0 700006000000000a00000000290000000000 1
 end
 ";
 
-// On a host that makes no aborts outside recovery, recovery aborts: the attempt of a failfast command, which is then reported.
+// A host that makes no aborts outside recovery aborts within it, in the order in which its commands failed. One of them is failfast:
+// it isn't sent again.
 const ABORT_LEVEL: &str = "\
 host 0 4 a noasync
 lun 0 0:0:0 2048 8
@@ -916,6 +917,84 @@ host 0
 2 cleared 1 2
 2 told 2 03 00 0 0 -
 2 again 1 counted
+2 ehend
+result 1 open 1
+result 2 timeout 03 00 0 0 - 0
+end
+";
+
+// Tests that go unanswered leave their devices to the next level; callbacks that the host doesn't have fail. Of two devices of a
+// target one is ready after the target's reset, the other goes offline.
+const HALF_READY: &str = "\
+host 0 4 dt noasync
+lun 0 0:0:0 2048 8
+lun 0 0:0:1 2048 8
+plan 0 0:0:0 never 1 1 1
+plan 0 0:0:1 never 1 1 1
+plan 0 0:0:0 silent 1 1 1
+plan 0 0:0:1 silent 1 1 2
+cmd 1 0 0 0:0:0 2 5 - 000000000000
+cmd 2 0 0 0:0:1 2 5 - 000000000000
+step 0 submit 0
+step 0 submit 0
+step 0 send
+step 0 send
+step 0 tick
+step 0 tick
+step 0 due
+step 0 due
+step 0 own 1 expiry
+step 0 own 2 expiry
+step 0 settle 1
+step 0 settle 2
+step 0 eh begin
+step 0 eh act
+step 0 eh act
+step 0 eh act
+step 0 eh act
+step 0 eh act
+step 0 eh act
+step 0 eh act
+step 0 eh act
+step 0 eh flush
+step 0 eh flush
+step 0 eh end
+end stop
+";
+
+const HALF_READY_TEXT: &str = "\
+host 0
+0 took 1
+0 took 2
+0 sent 1 1 0
+0 sent 2 2 1
+0 tick
+1 tick
+2 due 1
+2 due 2
+2 owned 1 expiry
+2 owned 2 expiry
+2 failed 1 1 cancelled
+2 failed 2 2 cancelled
+2 ehbegin
+2 act 2 1 failed
+2 act 2 2 failed
+2 act 4 0:0:0 ok
+2 probe 0:0:0 00 silent
+2 act 4 0:0:1 ok
+2 probe 0:0:1 00 silent
+2 act 5 0:0 ok
+2 probe 0:0:0 00 00 02 0 0 700006000000000a00000000290000000000
+2 probe 0:0:0 00 00 00 0 0 -
+2 probe 0:0:1 00 silent
+2 cleared 1 5
+2 act 6 0 failed
+2 act 7 - failed
+2 act 8 0:0:1 ok
+2 offline 0:0:1
+2 cleared 2 8
+2 again 1 counted
+2 told 2 03 00 0 0 -
 2 ehend
 result 1 open 1
 result 2 timeout 03 00 0 0 - 0
@@ -1011,7 +1090,7 @@ end
 ";
 
 /// Scripts with recovery, and their texts.
-pub const RECOVERIES: [(&str, &str); 16] = [
+pub const RECOVERIES: [(&str, &str); 17] = [
     (TWO_RECOVERED, TWO_RECOVERED_TEXT),
     (SECOND_EXPIRY, SECOND_EXPIRY_TEXT),
     (NO_CALLBACKS, NO_CALLBACKS_TEXT),
@@ -1027,5 +1106,6 @@ pub const RECOVERIES: [(&str, &str); 16] = [
     (TWO_DEVICES, TWO_DEVICES_TEXT),
     (TWICE, TWICE_TEXT),
     (ABORT_LEVEL, ABORT_LEVEL_TEXT),
+    (HALF_READY, HALF_READY_TEXT),
     (CAUSES, CAUSES_TEXT),
 ];
