@@ -1,7 +1,7 @@
 ghost use Rattle.std.specs.Prelude.{◌≡◌, ◌<◌, ◌^◌, OnOk, IfOk, IfSome};
 ghost use Rattle.mid_base.specs.declared.answers.By.{By};
 ghost use Rattle.host_words.specs.Journals.{HasSent, HasCause};
-ghost use Rattle.host_words.specs.Seats.{view, tag_count, IsSameTable};
+ghost use Rattle.host_words.specs.Seats.{view, IsSameTable};
 ghost use Rattle.host_tests.specs.Desks.{entry_of};
 ghost use Rattle.host_tests.specs.Turned.{Turned, Added, IsTold, IsIdle, IsBack};
 
@@ -28,15 +28,15 @@ pub fn made_note<R: Wait>(
     noted
 }
 
-/// A turn that sends the next attempt under a tag, and arms the tag; None where the tag isn't free.
+/// A turn that sends the next attempt under a tag, and arms the tag; None where the tag isn't free, or the table has no such
+/// tag. That it has the tag is no condition of the caller's: a turn finds a state with a tag for each of the table's.
 pub fn sent<R: Wait>(
     rt: &R,
     table: &HostTable<Desk>,
     seat: &mut HostSeat<Desk>,
     t: Tag,
 ) -> Result<Option<Attempt>, NoMemory>
-    requires seat { IsIdle table.now seat.old }
-    requires tag { t.0 < tag_count table.now }
+    requires { IsIdle table.now seat.old }
     ensures table { IsSameTable seat.old seat.new }
     ensures turn { Turned (view seat.old) (view seat.new) }
     ensures sent { IfOk result (λ o. IfSome o (λ n. (n.0 < 2 ^ 60) × HasSent (view seat.new).seen t.0 n)) }
@@ -102,7 +102,8 @@ pub fn overdue<R: Wait>(
     }
 }
 
-/// Three turns: the next attempt is sent under a tag, is answered, and its time is up. None where the tag isn't free.
+/// Three turns: the next attempt is sent under a tag, is answered, and its time is up. None where the tag isn't free,
+/// or the table has no such tag.
 #[tactic(auto, using(crate::proofs::Turns::turned_on, crate::proofs::Turns::goes_nowhere))]
 pub fn sent_and_told<R: Wait>(
     rt: &R,
@@ -111,8 +112,7 @@ pub fn sent_and_told<R: Wait>(
     t: Tag,
     answer: Answer,
 ) -> Result<Option<Attempt>, NoMemory>
-    requires seat { IsIdle table.now seat.old }
-    requires tag { t.0 < tag_count table.now }
+    requires { IsIdle table.now seat.old }
     ensures back { IsBack table.now seat.old seat.new }
     ensures told { IfOk result (λ o. IfSome o (λ n. (n.0 < 2 ^ 60) × IsTold (view seat.new).seen t.0 n)) }
 {

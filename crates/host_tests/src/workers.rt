@@ -33,8 +33,7 @@ pub fn sent_all<R: Wait>(
     count: u16,
     answer: Answer,
 ) -> Result<bool, NoMemory>
-    requires seat { IsIdle table.now seat.old }
-    requires tags { count ≤ tag_count table.now }
+    requires { IsIdle table.now seat.old }
     ensures back { IsBack table.now seat.old seat.new }
     ensures told { IfOk result (λ b. IsTrue b → AllTold count (view seat.new).seen) }
 {

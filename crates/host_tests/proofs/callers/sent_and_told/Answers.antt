@@ -7,13 +7,13 @@ use Rattle.host_tests.proofs.Turns.{goes_nowhere, turned_on, turned_seen}
 use Rattle.host_tests.proofs.callers.sent_and_told.Goals as goal
 
 pub returns-in_err-n-clause-back : goal.returns-in_err-n-clause-back
-returns-in_err-n-clause-back g c = (search rules, turned_on _ _ _ (goes_nowhere _ c.requires.seat.1) c.sent.ensures.turn)
+returns-in_err-n-clause-back g c = (search rules, turned_on _ _ _ (goes_nowhere _ c.requires.1) c.sent.ensures.turn)
 
 pub returns-in_default-clause-back : goal.returns-in_default-clause-back
-returns-in_default-clause-back g c = (search rules, turned_on _ _ _ (goes_nowhere _ c.requires.seat.1) c.sent.ensures.turn)
+returns-in_default-clause-back g c = (search rules, turned_on _ _ _ (goes_nowhere _ c.requires.1) c.sent.ensures.turn)
 
 pub returns-in_err-answered-clause-back : goal.returns-in_err-answered-clause-back
-returns-in_err-answered-clause-back g c = (search rules, turned_on _ _ _ (turned_on _ _ _ (goes_nowhere _ c.requires.seat.1) c.sent.ensures.turn) c.answered.ensures.turn)
+returns-in_err-answered-clause-back g c = (search rules, turned_on _ _ _ (turned_on _ _ _ (goes_nowhere _ c.requires.1) c.sent.ensures.turn) c.answered.ensures.turn)
 
 pub overdue-requires-clause-sent : goal.overdue-requires-clause-sent
 overdue-requires-clause-sent g c =
@@ -22,11 +22,11 @@ overdue-requires-clause-sent g c =
 
 pub returns-in_err-overdue-clause-back : goal.returns-in_err-overdue-clause-back
 returns-in_err-overdue-clause-back g c =
-    (search rules, turned_on _ _ _ (turned_on _ _ _ (turned_on _ _ _ (goes_nowhere _ c.requires.seat.1) c.sent.ensures.turn) c.answered.ensures.turn) c.overdue.ensures.turn)
+    (search rules, turned_on _ _ _ (turned_on _ _ _ (turned_on _ _ _ (goes_nowhere _ c.requires.1) c.sent.ensures.turn) c.answered.ensures.turn) c.overdue.ensures.turn)
 
 pub returns-clause-back : goal.returns-clause-back
 returns-clause-back g c =
-    (search rules, turned_on _ _ _ (turned_on _ _ _ (turned_on _ _ _ (goes_nowhere _ c.requires.seat.1) c.sent.ensures.turn) c.answered.ensures.turn) c.overdue.ensures.turn)
+    (search rules, turned_on _ _ _ (turned_on _ _ _ (turned_on _ _ _ (goes_nowhere _ c.requires.1) c.sent.ensures.turn) c.answered.ensures.turn) c.overdue.ensures.turn)
 
 pub returns-clause-told : goal.returns-clause-told
 returns-clause-told g c = (
