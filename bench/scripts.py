@@ -100,6 +100,41 @@ def timed_out(count, units=4, at_once=32):
     yield "end stop"
 
 
+def recovering(count, units, at_once):
+    """The first attempt of each command isn't answered, and the host makes no aborts outside recovery: so many commands fail at a
+    time, recovery aborts and tests each, and all are sent again. The number of commands is a multiple of those that fail at a time."""
+    each = at_once // units
+    yield f"host 0 {at_once} adtbh noasync"
+    for i in range(units):
+        yield f"lun 0 {unit(i)} 65536 {each}"
+    for i in range(units):
+        for k in range(1, each + 1):
+            yield f"plan 0 {unit(i)} never {k} {2 * each} {count // at_once}"
+    yield from commands(count, units, reads, 2)
+    for first in range(1, count + 1, at_once):
+        for n in range(first, first + at_once):
+            yield f"step 0 submit {n % 4}"
+        for _ in range(at_once):
+            yield "step 0 send"
+        yield "step 0 tick"
+        yield "step 0 tick"
+        lost = range(2 * first - 1, 2 * first - 1 + at_once)
+        for _ in lost:
+            yield "step 0 due"
+        for n in lost:
+            yield f"step 0 own {n} expiry"
+        for n in lost:
+            yield f"step 0 settle {n}"
+        yield "step 0 eh begin"
+        for _ in lost:
+            yield "step 0 eh act"
+        for _ in lost:
+            yield "step 0 eh flush"
+        yield "step 0 eh end"
+        yield from round_trip(range(lost.stop, lost.stop + at_once), 0)
+    yield "end stop"
+
+
 # The name of each script, how many commands it has, and its lines.
 SCRIPTS = [
     ("2,000 commands", 2_000, lambda: script(2_000)),
@@ -113,6 +148,8 @@ SCRIPTS = [
     ("60,000 faults of a unit", 20_000, lambda: script(20_000, units=1, depth=32, faults=60_000)),
     ("1,984 timed out", 1_984, lambda: timed_out(1_984)),
     ("20,000 timed out", 20_000, lambda: timed_out(20_000)),
+    ("2,048 recovered, 64 at a time", 2_048, lambda: recovering(2_048, 16, 64)),
+    ("2,048 recovered, 1,024 at a time", 2_048, lambda: recovering(2_048, 256, 1_024)),
 ]
 
 
