@@ -1,0 +1,4 @@
+pub mod Order
+pub mod Rest
+pub mod Phases
+pub mod Played

@@ -1,0 +1,167 @@
+ghost use Rattle.std.specs.Prelude.{◌≡◌, find, option_map};
+ghost use Rattle.attempt_table.specs.Claims.{is_by};
+ghost use Rattle.trace_model.specs.Steps.{same_owner};
+ghost use Rattle.drain_rounds.specs.Rounds.{is_stopped};
+ghost use Rattle.play_sched.specs.Order.{is_before};
+
+use debug_adapter::DebugAdapter;
+use mid_base::{
+    Attempt, By, DevAddr, DeviceState, Did, Entry, HostSpec, NoMemory, Rows, Step, Tag, Why,
+};
+use mid_core::Core;
+use std::alloc::Global;
+use std::marker::Model;
+
+/// One of a script's hosts: its core over a simulated adapter.
+#[derive(Drop)]
+pub struct Host {
+    core: Core<DebugAdapter>,
+}
+
+impl Model for Host {
+    ghost use Rattle.std.specs.Prelude.{reverse};
+    ghost use Rattle.drain_rounds.specs.Making.{HostRun};
+
+    ghost Value = { HostRun };
+
+    ghost view = { λ h. record { spec = h.core.spec; before = h.core.before; entries = reverse h.core.journal } };
+}
+
+impl Host {
+    ghost use Rattle.std.specs.Prelude.{◌≡◌, ◌<◌, None, Ok, reverse, length, IfOk, true};
+    ghost use Rattle.mid_base.specs.Limits.{KeepsLimits};
+    ghost use Rattle.trace_model.specs.Claims.{IsNextLate};
+    ghost use Rattle.attempt_table.specs.Claims.{IsNextOwned};
+    ghost use Rattle.drain_rounds.specs.Making.{Comes};
+    ghost use Rattle.drain_rounds.specs.Rounds.{is_drained};
+    ghost use Rattle.play_sched.specs.Played.{IsRun, unplayed};
+    ghost use Rattle.play_sched.specs.Rest.{GoesOn, IsFirstClaim, first_stopped, stops_none};
+
+    /// A host to which nothing has happened yet, and whose units nothing has probed.
+    pub fn new(alloc: Global, spec: HostSpec) -> Result<Host, NoMemory>
+        requires { KeepsLimits spec }
+        ensures { IfOk result (λ host. host ≡ unplayed spec) }
+    {
+        let lower = DebugAdapter::new(alloc, &spec)?;
+        let core = Core::new(alloc, spec, Rows::new(alloc), lower)?;
+        Ok(Host { core })
+    }
+
+    pub fn spec(&self) -> &HostSpec
+        ensures { result.now ≡ self.now.spec }
+    {
+        self.core.spec()
+    }
+
+    /// The journal, the oldest entry first.
+    pub fn journal(&self) -> &[Entry]
+        ensures entries { result.now ≡ reverse self.now.entries }
+        ensures run { IsRun self.now }
+    {
+        self.core.journal()
+    }
+
+    /// Makes one step, and says why it was skipped.
+    pub fn make(&mut self, step: Step) -> Result<Option<Why>, NoMemory>
+        ensures comes { IfOk result (λ why. Comes self.old.spec self.old.before self.old.entries step why self.new.entries) }
+        ensures spec { IfOk result (λ why. self.new.spec ≡ self.old.spec) }
+        ensures before { IfOk result (λ why. self.new.before ≡ self.old.before) }
+        ensures goes { stops_none step ≡ true → IfOk result (λ why. GoesOn self.old self.new) }
+        ensures more { result ≡ Ok None → length self.old.entries < length self.new.entries }
+    {
+        // Where the adapter stands says whether an answer is due.
+        let _ = self.core.journal();
+        match self.core.step(step)? {
+            Did::Done => Ok(None),
+            Did::Skipped(why) => Ok(Some(why)),
+        }
+    }
+
+    /// How many entries the journal has.
+    pub fn count(&self) -> usize
+        ensures { result ≡ length self.now.entries }
+    {
+        self.core.journal().len()
+    }
+
+    /// Whether the host is drained: each command is handed in, and each that was taken is reported.
+    pub fn is_drained(&self) -> bool
+        ensures { result ≡ is_drained self.now.spec self.now.entries }
+    {
+        self.core.drained()
+    }
+
+    /// The least attempt that waits for its answer, or for its expiry, to own it.
+    pub fn first_claim(&self, by: By) -> Option<Attempt>
+        ensures { IsFirstClaim by self.now.entries result }
+    {
+        let _ = self.core.journal();
+        claim_by(self.core.waiting_claims(), by)
+    }
+
+    /// The least attempt that has an owner and isn't settled.
+    pub fn next_owned(&self) -> Option<Attempt>
+        ensures { IsNextOwned self.now.entries result }
+    {
+        self.core.next_owned()
+    }
+
+    /// The least attempt with an answer that is to be ignored.
+    pub fn next_late(&self) -> Option<Attempt>
+        ensures { IsNextLate self.now.entries result }
+    {
+        self.core.next_late()
+    }
+
+    /// The first device in address order that is in quiesce or block.
+    pub fn first_stopped(&self) -> Option<DevAddr>
+        requires { KeepsLimits self.now.spec }
+        ensures { result ≡ first_stopped self.now.spec self.now.entries }
+    {
+        let mut first = None;
+        for lun in self.core.spec().luns.as_slice() {
+            let state = self.core.device_state(lun.dev);
+            if is_stopped(state) && is_before(lun.dev, first) {
+                first = Some(lun.dev);
+            }
+        }
+        first
+    }
+}
+
+// The attempt of the first claim of this side.
+fn claim_by(claims: &[(Tag, Attempt, By)], by: By) -> Option<Attempt>
+    ensures { result ≡ option_map (λ c. c.1) (find (is_by by) claims.now) }
+{
+    match claims.iter().find(|claim| same_owner(claim.2, by)) {
+        Some(claim) => Some(claim.1),
+        None => None,
+    }
+}
+
+fn same_owner(one: By, other: By) -> bool
+    ensures { result ≡ same_owner one other }
+{
+    matches!(
+        (one, other),
+        (By::Answer, By::Answer) | (By::Expiry, By::Expiry)
+    )
+}
+
+fn is_stopped(state: DeviceState) -> bool
+    ensures { result ≡ is_stopped state }
+{
+    matches!(state, DeviceState::Quiesce | DeviceState::Block)
+}
+
+// Whether a device stands before another one in address order; before none, it does.
+fn is_before(device: DevAddr, other: Option<DevAddr>) -> bool
+    ensures { result ≡ is_before device other }
+{
+    match other {
+        Some(other) => {
+            (device.channel, device.target, device.lun) < (other.channel, other.target, other.lun)
+        }
+        None => true,
+    }
+}
