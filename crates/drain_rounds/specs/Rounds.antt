@@ -1,5 +1,5 @@
 -- The rounds in which a host is run on until nothing is left to do. P, Q and R have the newest entry first.
-use Rattle.std.specs.Prelude.{◌≡◌, ℕ, zero, suc, Bool, true, false, not, List, [], ◌∷◌, ◌++◌, Option, None, Some, is_none, find, filter, map, max}
+use Rattle.std.specs.Prelude.{◌≡◌, ℕ, zero, suc, Bool, true, false, List, [], ◌∷◌, ◌++◌, Option, None, Some, is_none, if◌then◌else◌, find, map, max, nat_lt}
 use Rattle.std.specs.List.{list_all}
 use Rattle.mid_base.specs.declared.names.DevAddr.{DevAddr}
 use Rattle.mid_base.specs.declared.names.Attempt.{Attempt}
@@ -14,7 +14,7 @@ use Rattle.mid_base.specs.declared.steps.Why.{Why}
 use Rattle.mid_base.specs.declared.host_spec.LunSpec.{LunSpec}
 use Rattle.mid_base.specs.declared.host_spec.HostSpec.{HostSpec}
 use Rattle.host_template.specs.Standing.{Before}
-use Rattle.disposition.specs.Ladder.{with_dev}
+use Rattle.disposition.specs.Ladder.{address}
 use Rattle.trace_model.specs.Devices.{state}
 use Rattle.trace_model.specs.Drained.{is_done}
 use Rattle.trace_model.specs.Steps.{barred}
@@ -54,14 +54,23 @@ is_stopped Quiesce = true
 is_stopped Block = true
 is_stopped _ = false
 
--- the devices in address order
-abbrev pub devices : List LunSpec → List DevAddr
-devices [] = []
-devices (l ∷ luns) = with_dev l.dev (devices luns)
+-- the one of two devices that comes first in address order
+abbrev pub earlier : DevAddr → Option DevAddr → DevAddr
+earlier d None = d
+earlier d (Some e) = if nat_lt (address e) (address d) then e else d
 
--- the devices that are stopped run on
+-- the first of these units, in address order, that is stopped
+abbrev pub first_stopped : HostSpec → List Entry → List LunSpec → Option DevAddr
+first_stopped s P [] = None
+first_stopped s P (l ∷ luns) = if is_stopped (state s l.dev P) then Some (earlier l.dev (first_stopped s P luns)) else first_stopped s P luns
+
+abbrev pub run_on : Option DevAddr → List Step
+run_on None = []
+run_on (Some d) = step.SetState d Running ∷ []
+
+-- a device that is stopped runs on
 abbrev pub wake : Phase
-wake s P = map (λ d. step.SetState d Running) (filter (λ d. is_stopped (state s d P)) (devices s.luns))
+wake s P = run_on (first_stopped s P s.luns)
 
 -- each lane is handed in
 abbrev pub hand_in : Phase
@@ -117,7 +126,7 @@ abbrev pub Where : Bool → Type 0 → Type 0 → Type 0
 Where true A B = A
 Where false A B = B
 
--- at most so many rounds, until the host is drained; whether all were made and it isn't
-abbrev pub Drains : ℕ → HostSpec → Before → List Entry → List Entry → Bool → Type 0
-Drains zero s b P Q short = (Q ≡ P) × (short ≡ not (is_drained s P))
-Drains (suc most) s b P Q short = Where (is_drained s P) ((Q ≡ P) × (short ≡ false)) ((R : List Entry) × Round s b P R × Drains most s b R Q short)
+-- at most so many rounds, until the host is drained
+abbrev pub Drains : ℕ → HostSpec → Before → List Entry → List Entry → Type 0
+Drains zero s b P Q = Q ≡ P
+Drains (suc most) s b P Q = Where (is_drained s P) (Q ≡ P) ((R : List Entry) × Round s b P R × Drains most s b R Q)

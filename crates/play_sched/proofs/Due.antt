@@ -13,7 +13,8 @@ use Rattle.adapter_tables.specs.TablesOf.{plan_of, rows_of, units_of}
 use Rattle.debug_adapter.specs.declared.adapter.DebugAdapter.{DebugAdapter}
 use Rattle.debug_adapter.specs.Adapter.{AdapterStands}
 use Rattle.debug_adapter.specs.Laws.{tick_law}
-use Rattle.play_top.specs.Played.{IsDueAfter}
+use Rattle.host_template.specs.Standing.{Before}
+use Rattle.drain_rounds.specs.Making.{IsDueAfter}
 
 some_passes : (f : Held → Bool) (xs : List (Option Held)) → list_any f (filter_map (λ slot. slot) xs) ≡ true
     → (k : ℕ) × (h : Held) × (slice_index_or xs k None ≡ Some h) × (f h ≡ true)
@@ -24,12 +25,12 @@ some_passes f (Some h ∷ xs) e = elim (cases_Bool (f h)) [
   | inr isnt ↦ let later = some_passes f xs (rw isnt at e) in (suc later.0, later.1, later.2, later.3)
 ]
 
-pub due_is : (x : DebugAdapter) (s : HostSpec) (P : List Entry) → AdapterStands x s [] P → IsDueAfter s P (any_due x.held (ticks P))
-due_is x s P stands = by (any_due x.held (ticks P)) refl
+pub due_is : (x : DebugAdapter) (s : HostSpec) (b : Before) (P : List Entry) → AdapterStands x s b P → IsDueAfter s b P (any_due x.held (ticks P))
+due_is x s b P stands = by (any_due x.held (ticks P)) refl
   where
-    by : (due : Bool) → any_due x.held (ticks P) ≡ due → IsDueAfter s P due
+    by : (due : Bool) → any_due x.held (ticks P) ≡ due → IsDueAfter s b P due
     by true e =
         let some = some_passes (λ h. is_due (ticks P) h.due) x.held.slots e in
-        let held_so : held s [] P some.1.n.0 ≡ Some some.1 = (stands.2 some.1.n.0 some.1).1 (refl, (some.0, some.2)) in
+        let held_so : held s b P some.1.n.0 ≡ Some some.1 = (stands.2 some.1.n.0 some.1).1 (refl, (some.0, some.2)) in
         (some.1.n.0, ap (is_due_held (ticks P)) held_so ∙ some.3)
-    by false e = (tick_law (plan_of x.plan) x.held (rows_of x.rows) (units_of x.units) s [] P e stands).5.0
+    by false e = (tick_law (plan_of x.plan) x.held (rows_of x.rows) (units_of x.units) s b P e stands).5.0

@@ -1,8 +1,8 @@
--- Steps on hosts.
-use Rattle.std.proofs.Common.{◌≡◌, ℕ, List, [], ◌∷◌, ◌++◌, length, get_or, set, reverse, Option, None, Some, Ok, refl, sym, ap, ◌∙◌, subst, append_assoc, inl, inr, arith, ◌≤◌, one-add}
+-- What a step of the core makes of its host.
+use Rattle.std.proofs.Common.{◌≡◌, ℕ, true, List, [], ◌∷◌, ◌++◌, length, get_or, set, reverse, Option, None, Some, Ok, refl, sym, ap, ◌∙◌, subst, append_assoc, inl, inr, arith, ◌≤◌, ◌<◌, length-append, one-add}
 use Rattle.std.specs.List.{position, position_or_len}
 use Rattle.std.proofs.lemmas.Bool.{cases_Bool, cases_lt, lt-ltb, eqb-true}
-use Rattle.std.proofs.lemmas.List.{reverse-append, append-nil}
+use Rattle.std.proofs.lemmas.List.{reverse-append, append-nil, length-reverse}
 use Rattle.std.proofs.lemmas.List.Quantifiers.{position-Some}
 use Rattle.std.proofs.lemmas.Option.{slice_get-get_or}
 use Rattle.std.proofs.Math.Seq.{map-set_same}
@@ -21,85 +21,79 @@ use Rattle.debug_adapter.specs.Adapter.{AdapterStands}
 use Rattle.trace_model.specs.Legal.{onto}
 use Rattle.trace_model.proofs.Making.{onto-reverse}
 use Rattle.mid_core.specs.View.{CoreView}
-use Rattle.mid_core.specs.Steps.{Answers}
-use Rattle.script_text.specs.Playable.{IsStepOnSome}
-use Rattle.script_text.specs.Said.{host_of}
-use Rattle.play_top.proofs.Due.{due_is}
-use Rattle.play_top.specs.Played.{Comes, ComesOn, HostRun, Plays, is_named, skip_of, specs_of}
-
-absent : (n : ℕ) (runs : List HostRun) (t : Step) → IsStepOnSome (host_of (specs_of runs) n) t → length runs ≤ position_or_len (is_named n) runs → ⊥
-absent n [] t is le = absurd is
-absent n (r ∷ runs) t is le = elim (cases_Bool (is_named n r)) [
-  | inl hit ↦ let h = rw hit at le in omega (arith, h)
-  | inr isnt ↦ let below = rw (isnt, one-add) at le in absent n runs t (rw isnt at is) (omega (arith, below))
-]
-
--- the host that a step names is there
-pub host_found : (n : ℕ) (runs : List HostRun) (t : Step) → IsStepOnSome (host_of (specs_of runs) n) t → position (is_named n) runs ≡ None → ⊥
-host_found n runs t is none = elim (cases_lt (position_or_len (is_named n) runs) (length runs)) [
-  | inl lt ↦ absurd (let h = rw (lt-ltb (position_or_len (is_named n) runs) (length runs) lt) at none in cc h)
-  | inr le ↦ absent n runs t is (omega arith)
-]
+use Rattle.mid_core.specs.Steps.{Answers, Opens}
+use Rattle.debug_adapter.specs.LowerRun.{LowerRun}
+use Rattle.drain_rounds.specs.Making.{Comes, HostRun}
+use Rattle.play_sched.specs.Rest.{GoesOn, stops_none}
+use Rattle.play_sched.proofs.Due.{due_is}
+use Rattle.play_sched.proofs.Kept.{awake_stays, handed_stays}
 
 -- the journal behind a group, the newest entry first
 pub behind : (journal g new : List Entry) → new ≡ journal ++ g → reverse new ≡ onto g (reverse journal)
 behind journal g new e = ap reverse e ∙ (reverse-append journal g ∙ sym (onto-reverse g (reverse journal)))
-
--- a step on the first host with the number
-pub made_on : (old : List HostRun) (n i : ℕ) (t : Step) (why : Option Why) (d new : HostRun) → position (is_named n) old ≡ Some i
-    → Comes (get_or old i d).spec (get_or old i d).entries t why new.entries → new.spec ≡ (get_or old i d).spec → ComesOn old n t why (set old i new)
-made_on old n i t why d new place comes kept =
-    let host = get_or old i d in
-    let found = position-Some (is_named n) old i d place in
-    record {
-      place = i;
-      host = host;
-      entries = new.entries;
-      at = slice_get-get_or old i d found.0;
-      named = eqb-true host.spec.no.0 n found.1;
-      comes = comes;
-      changed = ap (λ (s : HostSpec). set old i (record { spec = s; entries = new.entries })) kept;
-    }
-
-pub specs_kept : (old : List HostRun) (i : ℕ) (d new : HostRun) → new.spec ≡ (get_or old i d).spec → specs_of (set old i new) ≡ specs_of old
-specs_kept old i d new kept = map-set_same (λ (r : HostRun). r.spec) old i new d kept
-
--- one step line more
-pub plays_more : (steps : List (ℕ × HostNo × Step)) (old mid new : List HostRun) (skips : List (ℕ × Why)) (t : ℕ × HostNo × Step) (why : Option Why)
-    → Plays steps old mid skips → ComesOn mid t.1.0 t.2 why new → Plays (steps ++ t ∷ []) old new (skips ++ skip_of t.0 why)
-plays_more [] old mid new skips t why h come = (
-  new,
-  why,
-  [],
-  subst (λ (runs : List HostRun). ComesOn runs t.1.0 t.2 why new) h.0 come,
-  ap (λ (xs : List (ℕ × Why)). xs ++ skip_of t.0 why) h.1 ∙ sym (append-nil (skip_of t.0 why)),
-  (refl, refl),
-)
-plays_more (u ∷ steps) old mid new skips t why h come = (
-  h.0,
-  h.1,
-  h.2 ++ skip_of t.0 why,
-  h.3,
-  ap (λ (xs : List (ℕ × Why)). xs ++ skip_of t.0 why) h.4 ∙ append_assoc (skip_of u.0 h.1) h.2 (skip_of t.0 why),
-  plays_more steps h.0 mid new h.2 t why h.5 come,
-)
 
 -- why a step was skipped, if it was
 abbrev pub why_of : Did → Option Why
 why_of Done = None
 why_of (Skipped why) = Some why
 
+abbrev pub run_of : CoreView DebugAdapter → HostRun
+run_of v = record { spec = v.spec; before = v.before; entries = reverse v.journal }
+
+pub kept_on : (old new : CoreView DebugAdapter) (t : Step) (did : Did) → Answers AdapterStands (λ x now. any_due x.held now) old new t (Ok did)
+    → (new.spec ≡ old.spec) × (new.before ≡ old.before)
+kept_on old new t Done answer = (answer.spec, answer.before)
+kept_on old new t (Skipped why) answer = (ap (λ (v : CoreView DebugAdapter). v.spec) answer.0, ap (λ (v : CoreView DebugAdapter). v.before) answer.0)
+
 -- what a step of the core says of its host
-pub came : (old new : CoreView DebugAdapter) (run : HostRun) (t : Step) (did : Did) → old.before ≡ [] → record { spec = old.spec; entries = reverse old.journal } ≡ run
-    → AdapterStands old.lower old.spec old.before (reverse old.journal) → Answers AdapterStands (λ x now. any_due x.held now) old new t (Ok did)
-    → Comes run.spec run.entries t (why_of did) (reverse new.journal)
-came old new run t Done none view stands answer =
-    let P = reverse old.journal in
-    let due = due_is old.lower old.spec P (subst (λ (b : Before). AdapterStands old.lower old.spec b P) none stands) in
-    subst (λ (r : HostRun). Comes r.spec r.entries t None (reverse new.journal)) view
-    (any_due old.lower.held (ticks P), due, (answer.group, behind old.journal answer.group new.journal answer.journal, answer.adds))
-came old new run t (Skipped why) none view stands answer =
-    let P = reverse old.journal in
-    let due = due_is old.lower old.spec P (subst (λ (b : Before). AdapterStands old.lower old.spec b P) none stands) in
-    subst (λ (r : HostRun). Comes r.spec r.entries t (Some why) (reverse new.journal)) view
-    (any_due old.lower.held (ticks P), due, (ap (λ (v : CoreView DebugAdapter). reverse v.journal) answer.0, answer.1))
+pub came : (old new : CoreView DebugAdapter) (run : HostRun) (t : Step) (did : Did) → run_of old ≡ run
+    → AdapterStands old.lower old.spec old.before (reverse old.journal) → AdapterStands new.lower new.spec new.before (reverse new.journal)
+    → Answers AdapterStands (λ x now. any_due x.held now) old new t (Ok did)
+    → Comes run.spec run.before run.entries t (why_of did) (reverse new.journal)
+came old new run t did view stands after answer =
+    let kept = kept_on old new t did answer in
+    let lower : LowerRun old.spec old.before (reverse new.journal) =
+        subst (λ (s : HostSpec). LowerRun s old.before (reverse new.journal)) kept.0
+        (subst (λ (b : Before). LowerRun new.spec b (reverse new.journal)) kept.1 after.5) in
+    subst (λ (r : HostRun). Comes r.spec r.before r.entries t (why_of did) (reverse new.journal)) view (by did answer lower)
+  where
+    by : (x : Did) → Answers AdapterStands (λ x now. any_due x.held now) old new t (Ok x) → LowerRun old.spec old.before (reverse new.journal)
+        → Comes old.spec old.before (reverse old.journal) t (why_of x) (reverse new.journal)
+    by Done a lower =
+        (any_due old.lower.held (ticks (reverse old.journal)), due_is old.lower old.spec old.before (reverse old.journal) stands, record {
+          group = a.group;
+          adds = a.adds;
+          after = behind old.journal a.group new.journal a.journal;
+          lower = lower;
+        })
+    by (Skipped why) a lower =
+        (any_due old.lower.held (ticks (reverse old.journal)), due_is old.lower old.spec old.before (reverse old.journal) stands,
+        (ap (λ (v : CoreView DebugAdapter). reverse v.journal) a.0, a.1))
+
+-- what is over stays so
+pub goes : (old new : CoreView DebugAdapter) (t : Step) (did : Did) → stops_none t ≡ true
+    → Answers AdapterStands (λ x now. any_due x.held now) old new t (Ok did) → GoesOn (run_of old) (run_of new)
+goes old new t Done none answer =
+    let after = behind old.journal answer.group new.journal answer.journal in
+    record {
+      spec = answer.spec;
+      before = answer.before;
+      handed = λ n h. rw (answer.spec, after) (handed_stays old.spec n answer.group (reverse old.journal) h);
+      awake = λ h. rw (answer.spec, after) (awake_stays old.spec t answer.group (reverse old.journal) none answer.enters h);
+    }
+goes old new t (Skipped why) none answer = record {
+  spec = ap (λ (v : CoreView DebugAdapter). v.spec) answer.0;
+  before = ap (λ (v : CoreView DebugAdapter). v.before) answer.0;
+  handed = λ n h. rw answer.0 h;
+  awake = λ h. rw answer.0 h;
+}
+
+some_added : (s : HostSpec) (P : List Entry) (t : Step) (g : List Entry) → Opens s P t g → 0 < length g
+some_added s P t [] opened = absurd opened
+some_added s P t (e ∷ g) opened = omega arith
+
+pub longer : (old new : CoreView DebugAdapter) (t : Step) → Answers AdapterStands (λ x now. any_due x.held now) old new t (Ok Done)
+    → length (reverse old.journal) < length (reverse new.journal)
+longer old new t answer =
+    omega (arith, length-reverse old.journal, length-reverse new.journal, ap length answer.journal, length-append old.journal answer.group,
+    some_added old.spec (reverse old.journal) t answer.group answer.adds.opened)

@@ -1,4 +1,4 @@
-pub mod Order
+pub mod Tmp
 pub mod Rest
+pub mod Runs
 pub mod Phases
-pub mod Played

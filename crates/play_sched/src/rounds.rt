@@ -1,8 +1,7 @@
 ghost use Rattle.std.specs.Prelude.{◌≡◌, true, OnOk, IfOk};
-ghost use Rattle.mid_base.specs.Limits.{KeepsLimits};
 ghost use Rattle.drain_rounds.specs.Rounds.{GoesOn as TimeGoesOn, Passes, Round, is_drained};
-ghost use Rattle.play_sched.specs.Phases.{first_phases, middle_phases, last_phases};
-ghost use Rattle.play_sched.specs.Rest.{GoesOn, IsAtRest};
+ghost use Rattle.play_sched.specs.Phases.{IsAtRest, first_phases, middle_phases, last_phases};
+ghost use Rattle.play_sched.specs.Rest.{GoesOn};
 
 use crate::host::Host;
 use crate::phases::{Phase, exhaust, hand_in};
@@ -17,8 +16,7 @@ pub struct Rest {
 
 /// Makes one round.
 pub fn round(host: &mut Host, rest: &mut Rest) -> Result<(), NoMemory>
-    requires limits { KeepsLimits host.old.spec }
-    requires rest { IsAtRest rest.old host.old }
+    requires { IsAtRest rest.old host.old }
     ensures made { OnOk result (Round host.old.spec host.old.before host.old.entries host.new.entries) }
     ensures rest { OnOk result (IsAtRest rest.new host.new) }
     ensures goes { OnOk result (GoesOn host.old host.new) }
@@ -31,8 +29,7 @@ pub fn round(host: &mut Host, rest: &mut Rest) -> Result<(), NoMemory>
 
 // Wakes the devices and hands the lanes in, where that isn't over.
 fn take_up(host: &mut Host, rest: &mut Rest) -> Result<(), NoMemory>
-    requires limits { KeepsLimits host.old.spec }
-    requires rest { IsAtRest rest.old host.old }
+    requires { IsAtRest rest.old host.old }
     ensures made { OnOk result (Passes first_phases host.old.spec host.old.before host.old.entries host.new.entries) }
     ensures rest { OnOk result (IsAtRest rest.new host.new) }
     ensures goes { OnOk result (GoesOn host.old host.new) }
@@ -50,7 +47,6 @@ fn take_up(host: &mut Host, rest: &mut Rest) -> Result<(), NoMemory>
 
 // Sends, and gives what is answered or due to its owner.
 fn answer(host: &mut Host) -> Result<(), NoMemory>
-    requires { KeepsLimits host.old.spec }
     ensures made { OnOk result (Passes middle_phases host.old.spec host.old.before host.old.entries host.new.entries) }
     ensures goes { OnOk result (GoesOn host.old host.new) }
 {
@@ -65,7 +61,6 @@ fn answer(host: &mut Host) -> Result<(), NoMemory>
 
 // Settles what is owned, and recovers.
 fn recover(host: &mut Host) -> Result<(), NoMemory>
-    requires { KeepsLimits host.old.spec }
     ensures made { OnOk result (Passes last_phases host.old.spec host.old.before host.old.entries host.new.entries) }
     ensures goes { OnOk result (GoesOn host.old host.new) }
 {

@@ -9,7 +9,8 @@ use Rattle.mid_base.specs.declared.entries.Entry.{Entry}
 use Rattle.mid_base.specs.declared.host_spec.CmdSpec.{CmdSpec}
 use Rattle.mid_base.specs.declared.host_spec.HostSpec.{HostSpec}
 use Rattle.report_text.specs.Text.{HostJournal, host_text}
-use Rattle.play_top.specs.Played.{HostRun, IsNumbered, is_named}
+use Rattle.drain_rounds.specs.Making.{HostRun}
+use Rattle.play_sched.specs.Runs.{IsNumbered, is_named}
 use Rattle.play_top.specs.Texts.{hosts_text, journal_of, named_text, run_text}
 use Rattle.play_top.proofs.Turns.{AllBelow, named, turns, turns_ascend, turns_left}
 

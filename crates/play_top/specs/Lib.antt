@@ -1,4 +1,3 @@
 pub mod Reading
-pub mod Played
 pub mod Texts
 pub mod Play

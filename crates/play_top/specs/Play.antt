@@ -1,22 +1,35 @@
 -- What a run of the program did.
-use Rattle.std.specs.Prelude.{ℕ, ◌⊎◌, List, [], Option, Ok, Err}
+use Rattle.std.specs.Prelude.{ℕ, ◌⊎◌, Bool, true, false, List, [], Option, Some, Ok, Err}
 use Rattle.std.specs.Io.KnownBytes.{Appends}
 use Rattle.mid_base.specs.declared.steps.Why.{Why}
 use Rattle.mid_io.specs.Whole.{IsCutShort}
 use Rattle.script_text.specs.declared.script.Script.{Script}
 use Rattle.script_text.specs.declared.script.Bad.{Bad}
 use Rattle.play_top.specs.Reading.{Says, IsReadOut}
-use Rattle.play_top.specs.Played.{HostRun, Ran}
+use Rattle.play_words.specs.declared.mode.Mode.{Mode}
+use Rattle.play_words.specs.declared.mode.Mode.TheVariants as mode
+use Rattle.play_words.specs.Words.{mode_of}
+use Rattle.drain_rounds.specs.Making.{HostRun}
+use Rattle.play_sched.specs.Played.{Ran}
 use Rattle.play_top.specs.Texts.{played_text, bad_text}
 
--- the source was read to its end, its bytes are a good script, the script was played, and the text of the journals written
-pub record IsGoodRun (left left_new old new : Option (List ℕ)) : Type 0 where
+abbrev pub is_script : Option Mode → Bool
+is_script (Some mode.Script) = true
+is_script mode = false
+
+-- the words of the command line ask for the script of the source
+abbrev pub asks_for_script : List (List ℕ) → Bool
+asks_for_script words = is_script (mode_of words)
+
+-- the source was read to its end, its bytes are a good script, the script was played, and the text of the journals written;
+-- `short` says that the rounds of the script were used up with a host that isn't drained
+pub record IsPlayedRun (short : Bool) (left left_new old new : Option (List ℕ)) : Type 0 where
   pub script : Script
   pub says : Says left (Ok script)
   pub ended : IsReadOut left left_new
   pub runs : List HostRun
   pub skips : List (ℕ × Why)
-  pub ran : Ran script runs skips
+  pub ran : Ran script runs skips short
   pub written : Appends old new (played_text runs skips)
 
 -- the source's bytes are a bad script, and its first bad line with its kind was written
@@ -29,6 +42,6 @@ pub record IsBadRun (left old new : Option (List ℕ)) : Type 0 where
 abbrev pub IsCutOff : Option (List ℕ) → Option (List ℕ) → Option (List ℕ) → Type 0
 IsCutOff left old new =
     ((bad : Bad) × Says left (Err bad) × IsCutShort old new (bad_text bad))
-    ⊎ ((script : Script) × (runs : List HostRun) × (skips : List (ℕ × Why))
-    × Says left (Ok script) × Ran script runs skips × IsCutShort old new (played_text runs skips))
+    ⊎ ((script : Script) × (runs : List HostRun) × (skips : List (ℕ × Why)) × (short : Bool)
+    × Says left (Ok script) × Ran script runs skips short × IsCutShort old new (played_text runs skips))
     ⊎ Appends old new []

@@ -6,7 +6,8 @@ use Rattle.mid_base.specs.declared.steps.Why.{Why}
 use Rattle.report_text.specs.Text.{HostJournal, host_text, text}
 use Rattle.report_text.specs.Order.{ascending}
 use Rattle.script_text.specs.declared.script.Bad.{Bad}
-use Rattle.play_top.specs.Played.{HostRun, is_named}
+use Rattle.drain_rounds.specs.Making.{HostRun}
+use Rattle.play_sched.specs.Runs.{is_named}
 
 abbrev pub journal_of : HostRun → HostJournal
 journal_of run = record { number = run.spec.no.0; cmds = run.spec.cmds; journal = reverse run.entries }

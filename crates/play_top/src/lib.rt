@@ -4,8 +4,6 @@
 
 #[cfg(test)]
 mod barred_rows;
-mod host;
-mod playing;
 mod reading;
 #[cfg(test)]
 mod recovery_rows;

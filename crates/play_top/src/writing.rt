@@ -1,12 +1,11 @@
 ghost use Rattle.std.specs.Prelude.{◌≤◌, ◌≡◌, All, IfOk, string_bytes};
 ghost use Rattle.std.specs.List.{flat_map};
 ghost use Rattle.report_text.specs.Ends.{WritesText};
-ghost use Rattle.play_top.specs.Played.{IsNumbered};
+ghost use Rattle.play_sched.specs.Runs.{IsNumbered};
 ghost use Rattle.play_top.specs.Texts.{bad_text, hosts_text, named_text, played_text};
 
-use crate::host::Host;
-use crate::playing::Played;
 use mid_io::{Sink, write_all};
+use play_sched::{Host, Played};
 use report_text::{WriteEnd, write_host, write_skips};
 use script_text::Bad;
 use std::alloc::{AllocError, Global};

@@ -3,7 +3,7 @@ use Rattle.mid_base.specs.declared.steps.Why.{Why}
 use Rattle.report_text.specs.Ends.{WritesText}
 use Rattle.report_text.specs.Text.{skips_text}
 use Rattle.report_text.proofs.Written.{ends_on, stops_in}
-use Rattle.play_top.specs.Played.{HostRun}
+use Rattle.drain_rounds.specs.Making.{HostRun}
 use Rattle.play_top.specs.Texts.{hosts_text, played_text}
 use Rattle.play_top.proofs.writing.write_played.Goals as goal
 

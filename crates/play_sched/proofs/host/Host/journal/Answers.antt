@@ -3,15 +3,14 @@ use Rattle.std.proofs.lemmas.List.{reverse-reverse}
 use Rattle.mid_base.specs.declared.entries.Entry.{Entry}
 use Rattle.journal_laws.specs.Headline.{Headline}
 use Rattle.journal_laws.proofs.Heads.{headline}
-use Rattle.host_template.specs.Standing.{Before}
-use Rattle.debug_adapter.specs.LowerRun.{LowerRun}
-use Rattle.play_top.specs.Played.{HostRun, IsRun}
-use Rattle.play_top.proofs.host.Host.journal.Goals as goal
+use Rattle.drain_rounds.specs.Making.{HostRun}
+use Rattle.play_sched.specs.Runs.{IsRun}
+use Rattle.play_sched.proofs.host.Host.journal.Goals as goal
 
 pub returns-clause-run : goal.returns-clause-run
 returns-clause-run c =
     let core = c.self.inside.core in
     subst (λ (run : HostRun). IsRun run) c.self.view_is (record {
       headline = subst (λ (journal : List Entry). Headline core.spec journal) (sym (reverse-reverse core.journal)) (headline core.spec core.journal c.journal.ensures.legal);
-      lower = subst (λ (b : Before). LowerRun core.spec b (reverse core.journal)) c.self.invariant c.journal.ensures.stands.5;
+      lower = c.journal.ensures.stands.5;
     })

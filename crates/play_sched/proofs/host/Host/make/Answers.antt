@@ -1,9 +1,9 @@
 use Rattle.std.proofs.Common.{reverse, subst}
 use Rattle.mid_base.specs.declared.steps.Did.{Did}
-use Rattle.play_top.specs.Played.{Comes}
-use Rattle.play_top.proofs.Steps.{came, why_of}
-use Rattle.play_top.proofs.host.Host.make.Goals as goal
-use Rattle.play_top.proofs.host.Host.make.Goals.{in-Done, in-Skipped}
+use Rattle.drain_rounds.specs.Making.{Comes}
+use Rattle.play_sched.proofs.Steps.{came, why_of}
+use Rattle.play_sched.proofs.host.Host.make.Goals as goal
+use Rattle.play_sched.proofs.host.Host.make.Goals.{in-Done, in-Skipped}
 
 pub returns-clause-comes : goal.returns-clause-comes
 returns-clause-comes c =

@@ -1,6 +1,0 @@
-use Rattle.std.proofs.Common.{◌≡◌, map}
-use Rattle.play_top.specs.Played.{unplayed}
-use Rattle.play_top.proofs.playing.start.Given as goal
-
-abbrev pub invariant-loop-spec : goal.invariant-loop-spec
-invariant-loop-spec l = l.hosts.items ≡ map unplayed l.yielded
