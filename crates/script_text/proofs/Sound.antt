@@ -240,6 +240,10 @@ after_budget : (said : Said) (ws : List (List ℕ)) → SaidKeeps said → SaidK
 after_budget said [] k = k
 after_budget said (a ∷ ws) k = k
 
+after_end : (said : Said) (ws : List (List ℕ)) → SaidKeeps said → SaidKeeps (adds said lines.EndLine ws)
+after_end said [] k = k
+after_end said (a ∷ ws) k = k
+
 after_line_of : (said : Said) (key : Keyword) (ws : List (List ℕ)) → SaidKeeps said → is_full said key ≡ false → Fits said None (slots key) ws → SaidKeeps (adds said key ws)
 after_line_of said lines.HostLine ws k room f = after_host said ws k f
 after_line_of said lines.LunLine ws k room f = after_lun said ws k f
@@ -247,7 +251,7 @@ after_line_of said lines.PlanLine ws k room f = after_plan said ws k room f
 after_line_of said lines.CommandLine ws k room f = after_command said ws k room f
 after_line_of said lines.StepLine ws k room f = after_step said ws k f
 after_line_of said lines.BudgetLine ws k room f = after_budget said ws k
-after_line_of said lines.EndLine ws k room f = k
+after_line_of said lines.EndLine ws k room f = after_end said ws k
 
 unless_ok : (fault : Option Kind) (s t : Said) → unless fault s ≡ Ok t → (fault ≡ None) × (s ≡ t)
 unless_ok None s t e = (refl, cc)
@@ -293,14 +297,13 @@ whole_plays n said s k e =
     elim (cases_Bool said.ended) [
       | inl t ↦
           let h = rw t at e in
-          let same : ◌≡◌ {A = Script} (record { hosts = said.hosts; scans = []; steps = said.steps; budget = said.budget; drain = false }) s = cc h in
+          let same : ◌≡◌ {A = Script} (record { hosts = said.hosts; scans = []; steps = said.steps; budget = said.budget; drain = said.drain }) s = cc h in
           subst IsPlayable same
           (record {
             limits = each_all KeepsLimits said.hosts (each_where (HostKeeps said.ids said.plans) KeepsLimits (λ g keeps. host_limits said.ids said.plans g k.few_ids k.few_plans keeps) said.hosts k.each);
             numbers = k.numbers;
             steps = steps_all said.hosts said.steps k.steps;
             no_scan = refl;
-            no_drain = refl;
           })
       | inr f ↦ absurd (let h = rw f at e in cc h)
     ]

@@ -15,12 +15,14 @@ use Rattle.script_words.specs.declared.keywords.StepName.{StepName}
 use Rattle.script_words.specs.declared.keywords.StepName.TheVariants as names
 use Rattle.script_words.specs.declared.keywords.EhName.{EhName}
 use Rattle.script_words.specs.declared.keywords.EhName.TheVariants as recovery
+use Rattle.script_words.specs.declared.keywords.EndName.{EndName}
+use Rattle.script_words.specs.declared.keywords.EndName.TheVariants as ends
 use Rattle.script_words.specs.declared.plan_kinds.PlanKind.{PlanKind}
 use Rattle.script_words.specs.declared.plan_kinds.PlanKind.TheVariants as plans
 use Rattle.script_words.specs.Pieces.{value}
 use Rattle.script_words.specs.Hex.{bytes_value, byte_value, half_value, cdb_of, sense_of}
 use Rattle.script_words.specs.Words.{handlers_value, address_value}
-use Rattle.script_words.specs.Keywords.{step_name, eh_name, plan_kind, owner, state, failfast}
+use Rattle.script_words.specs.Keywords.{step_name, eh_name, end_name, plan_kind, owner, state, failfast}
 use Rattle.script_text.specs.Said.{Said, on_host, with_unit, with_planned, with_command}
 use Rattle.script_text.specs.Slots.{is_read_only, is_stopped}
 
@@ -82,6 +84,11 @@ abbrev pub fill_of : List (List ℕ) → ℕ
 fill_of [] = 0
 fill_of (word ∷ rest) = byte_value word
 
+-- the hosts are run on behind the last step
+abbrev pub is_drain : Option EndName → Bool
+is_drain (Some ends.Drain) = true
+is_drain _ = false
+
 -- what a good line adds
 abbrev pub adds : Said → Keyword → List (List ℕ) → Said
 adds said lines.HostLine (number ∷ can_queue ∷ callbacks ∷ rest) =
@@ -126,5 +133,5 @@ adds said lines.CommandLine (id ∷ host ∷ lane ∷ unit ∷ timeout ∷ allow
     }
 adds said lines.StepLine (host ∷ rest) = record said { steps = said.steps ++ (said.line, record { 0 = value host }, step_in rest) ∷ [] }
 adds said lines.BudgetLine (rounds ∷ rest) = record said { budget = Some (value rounds) }
-adds said lines.EndLine rest = record said { ended = true }
+adds said lines.EndLine (name ∷ rest) = record said { ended = true; drain = is_drain (end_name name) }
 adds said _ _ = said

@@ -27,7 +27,7 @@ use Rattle.script_text.specs.Adds.{step_in, fault_of}
 
 -- what a draft holds, without where it lies in memory
 abbrev pub seen : Draft → Said
-seen d = record { line = d.line; hosts = d.hosts.items; ids = d.ids.keys; plans = d.plans; steps = d.steps.items; budget = d.budget; ended = d.ended }
+seen d = record { line = d.line; hosts = d.hosts.items; ids = d.ids.keys; plans = d.plans; steps = d.steps.items; budget = d.budget; ended = d.ended; drain = d.drain }
 
 -- the host that the word at a place of hosts names
 abbrev pub HostGives : Said → Slot → Option (Bor (List ℕ)) → Result (Bor HostSpec) Kind → Type 0

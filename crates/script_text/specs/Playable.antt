@@ -1,5 +1,5 @@
 -- What whoever plays a good script may rely on.
-use Rattle.std.specs.Prelude.{◌≡◌, ℕ, ◌==◌, ◌^◌, ◌<◌, Bool, true, false, not, ◌&&◌, List, [], ◌∷◌, None, Option, Some, All}
+use Rattle.std.specs.Prelude.{◌≡◌, ℕ, ◌==◌, ◌^◌, ◌<◌, Bool, true, not, ◌&&◌, List, [], ◌∷◌, None, Option, Some, All}
 use Rattle.std.specs.List.{list_any}
 use Rattle.mid_base.specs.Limits.{KeepsLimits}
 use Rattle.mid_base.specs.Address.{has_dev}
@@ -36,4 +36,3 @@ pub record IsPlayable (s : Script) : Type 0 where
   pub numbers : differ_in_number s.hosts ≡ true
   pub steps : All (IsStepOf s.hosts) s.steps
   pub no_scan : s.scans ≡ []
-  pub no_drain : s.drain ≡ false

@@ -10,7 +10,8 @@ use Rattle.mid_base.specs.declared.host_spec.CmdSpec.{CmdSpec}
 use Rattle.mid_base.specs.declared.host_spec.HostSpec.{HostSpec}
 use Rattle.mid_base.specs.declared.steps.Step.{Step}
 
--- `line` is the number of the present line; `ids` are those of all commands, in ascending order
+-- `line` is the number of the present line; `ids` are those of all commands, in ascending order; `drain` says that the last
+-- line was read and has the hosts run on
 pub record Said : Type 0 where
   pub line : ℕ
   pub hosts : List HostSpec
@@ -19,9 +20,10 @@ pub record Said : Type 0 where
   pub steps : List (ℕ × HostNo × Step)
   pub budget : Option ℕ
   pub ended : Bool
+  pub drain : Bool
 
 abbrev pub nothing : Said
-nothing = record { line = 0; hosts = []; ids = []; plans = 0; steps = []; budget = None; ended = false }
+nothing = record { line = 0; hosts = []; ids = []; plans = 0; steps = []; budget = None; ended = false; drain = false }
 
 -- there is a value, and it passes
 abbrev pub passes : {V : Type 0} → (V → Bool) → Option V → Bool

@@ -14,8 +14,8 @@ use Rattle.script_words.specs.declared.kind.Kind.TheVariants as kinds
 use Rattle.script_words.specs.Pieces.{value}
 use Rattle.script_words.specs.Hex.{hex_byte, hex_half}
 use Rattle.script_words.specs.Words.{handlers, address_value}
-use Rattle.script_words.specs.Keywords.{step_name, eh_name, plan_kind, owner, state, failfast}
-use Rattle.script_words.specs.Faults.{unless_true, number_fault, address_fault, bytes_fault, choice_fault, text_fault}
+use Rattle.script_words.specs.Keywords.{step_name, eh_name, end_name, plan_kind, owner, state, failfast}
+use Rattle.script_words.specs.Faults.{unless_true, number_fault, address_fault, bytes_fault, choice_fault}
 use Rattle.script_text.specs.Said.{Said, passes, host_of, is_unit, is_lane, is_id}
 
 -- what may stand at a place of a line
@@ -41,7 +41,7 @@ pub data Slot : Type 0 where
   AnyEh : Slot  -- the name of a step of recovery
   AnyOwner : Slot  -- whom an attempt is given to
   AnyState : Slot  -- the name of a state of a device
-  Exactly : List ℕ → Slot  -- this word
+  AnyEnd : Slot  -- the name of the script's end
 
 -- what stands behind the first word of a line
 abbrev pub slots : Keyword → List Slot
@@ -52,7 +52,7 @@ slots lines.CommandLine =
     NewCommand ∷ KnownHost ∷ Number 0 63 ∷ KnownUnit ∷ Number 1 10000 ∷ Number 0 20 ∷ FailFast ∷ Bytes 16 ∷ Fill ∷ []
 slots lines.StepLine = KnownHost ∷ AnyStep ∷ []
 slots lines.BudgetLine = Number 1 1000000000000000000 ∷ []
-slots lines.EndLine = Exactly (codes "stop") ∷ []
+slots lines.EndLine = AnyEnd ∷ []
 
 -- what stands behind the numbers of a planned fault
 abbrev pub fault_slots : PlanKind → List Slot
@@ -145,7 +145,7 @@ slot_fault said host AnyStep word = choice_fault kinds.Word step_name word
 slot_fault said host AnyEh word = choice_fault kinds.Word eh_name word
 slot_fault said host AnyOwner word = choice_fault kinds.Word owner word
 slot_fault said host AnyState word = choice_fault kinds.Word state word
-slot_fault said host (Exactly text) word = text_fault text word
+slot_fault said host AnyEnd word = choice_fault kinds.Word end_name word
 
 -- the host of a line, behind a word that names it
 abbrev pub named : Said → Option HostSpec → Slot → List ℕ → Option HostSpec

@@ -1,7 +1,7 @@
 // Bad scripts, with the line and the kind of the first bad one. They were worked out from the rules of a script, by hand.
 
 /// Whole scripts, with line and kind.
-pub const WHOLE: [(&str, u64, u8); 47] = [
+pub const WHOLE: [(&str, u64, u8); 51] = [
     ("", 1, 9),
     ("\n", 2, 9),
     ("# remark", 2, 9),
@@ -26,10 +26,14 @@ pub const WHOLE: [(&str, u64, u8); 47] = [
     ("budget 5\nbudget\n", 2, 6),
     ("budget 5\n\tbudget 5 5\nhello\n", 2, 6),
     ("end\n", 1, 3),
-    ("end drain\n", 1, 1),
+    ("end foo\n", 1, 1),
+    ("end Drain\n", 1, 1),
     ("end Stop\n", 1, 1),
     ("end stop now\n", 1, 4),
-    ("end drain now\n", 1, 1),
+    ("end drain now\n", 1, 4),
+    ("end drain stop\n", 1, 4),
+    ("end drain\nend drain\n", 2, 10),
+    ("end stop\nend drain\n", 2, 10),
     ("budget\n", 1, 3),
     ("budget x\n", 1, 2),
     ("budget 0\n", 1, 8),

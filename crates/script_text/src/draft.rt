@@ -23,6 +23,7 @@ pub struct Draft {
     pub steps: Vec<(u64, HostNo, Step)>,
     pub budget: Option<u64>,
     pub ended: bool,
+    pub drain: bool,
 }
 
 impl Draft {
@@ -38,6 +39,7 @@ impl Draft {
             steps: Vec::new(alloc),
             budget: None,
             ended: false,
+            drain: false,
         }
     }
 

@@ -126,6 +126,32 @@ fn a_good_script_says_its_plans_and_steps(rt: HostRuntime) -> Result<(), Fail> {
     Ok(())
 }
 
+// Good scripts, with whether the hosts are run on behind the last step, and with their budget.
+const ENDS: [(&str, bool, Option<u64>); 9] = [
+    ("end stop\n", false, None),
+    ("end drain\n", true, None),
+    ("end drain", true, None),
+    ("\tend \r drain\r\n", true, None),
+    ("budget 5\nend stop\n", false, Some(5)),
+    ("budget 5\nend drain\n", true, Some(5)),
+    ("end drain\n\n# over\n  #end stop", true, None),
+    ("end stop\n# end drain\n", false, None),
+    (
+        "host 0 4 -\nlun 0 0:0:0 8 8\ncmd 1 0 0 0:0:0 30 5 - 00\nstep 0 submit 0\nend drain\n",
+        true,
+        None,
+    ),
+];
+
+#[test]
+fn the_last_line_says_whether_hosts_are_run_on(rt: HostRuntime) -> Result<(), Fail> {
+    for (text, drain, budget) in ENDS {
+        let script = read(rt.alloc(), &[text], 7)?;
+        assert_eq!(rt; (script.drain, script.budget), (drain, budget), "in {text}");
+    }
+    Ok(())
+}
+
 #[test]
 fn each_fault_of_a_plan_is_said(rt: HostRuntime) -> Result<(), Fail> {
     let table = [

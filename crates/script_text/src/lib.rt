@@ -13,7 +13,7 @@
 //! | `cmd ID H LANE ADDR TIMEOUT ALLOWED FLAG CDB [FILL]` | Command ID, 1 to 4,294,967,295, in a lane, 0 to 63, of that host, for that unit, with a timeout of TIMEOUT ticks, 1 to 10,000, and ALLOWED retries, 0 to 20. FLAG is `failfast` where it is to fail at the first error, else `-`. CDB is 1 to 16 bytes in hexadecimal digits; FILL is the byte that a write sends throughout, in two. |
 //! | `step H WORDS` | A step of that host. WORDS is `submit LANE`, of a lane that has commands, `send`, `work`, `due`, `own N answer`, `own N expiry`, `settle N`, `drop N`, `abort`, `eh begin`, `eh act`, `eh flush`, `eh end`, `tick` or `state ADDR NAME`; N, below 2^60, is an attempt, and NAME is `running`, `quiesce`, `block`, `offline`, `cancel` or `del`. |
 //! | `budget N` | At most N rounds are run, 1 to 10^18. |
-//! | `end stop` | The last line. |
+//! | `end stop`, `end drain` | The last line. `drain` says that the hosts are run on behind the last step, until nothing is left to do. |
 //!
 //! A number is one to twenty decimal digits; leading zeros may stand, and it is compared by its value. There are at most 64
 //! hosts, 256 units of each, 65,536 commands and 65,536 planned faults.
@@ -25,8 +25,7 @@
 //! `Word` or, where none may stand, `Extra`. A script has 16,777,216 bytes at most: the line that has the byte after these is
 //! bad whatever its words are. Without an `end` line the line behind the last one is bad.
 //!
-//! Scanning and a run to the end can't be said yet: `scan` as a flag of a unit and `drain` are words that may not stand where
-//! they would.
+//! Scanning can't be said yet: `scan` as a flag of a unit is a word that may not stand where it would.
 #![tactic(auto)]
 
 #[cfg(test)]

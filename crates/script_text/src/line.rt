@@ -13,7 +13,8 @@ use crate::plan::fault_in;
 use crate::steps::step_in;
 use mid_base::{DeviceState, HostNo, LunSpec, NoMemory, PlanEntry};
 use script_words::{
-    Keyword, Kind, LineFault, Words, exactly, handlers_in, keyword_of, number_in, plan_kind_in,
+    EndName, Keyword, Kind, LineFault, Words, end_name_in, handlers_in, keyword_of, number_in,
+    plan_kind_in,
 };
 
 fn memory(_: NoMemory) -> LineFault
@@ -143,8 +144,9 @@ fn end_line(draft: &mut Draft, rest: Words) -> Result<(), LineFault>
     ensures { Judges (seen draft.new) result (judge_slots (seen draft.old) EndLine (words rest.entry.rest.now)) }
 {
     let mut words = rest;
-    exactly(words.next(), b"stop").map_err(LineFault::Bad)?;
+    let name = end_name_in(words.next()).map_err(LineFault::Bad)?;
     no_more(words.next()).map_err(LineFault::Bad)?;
     draft.ended = true;
+    draft.drain = name == EndName::Drain;
     Ok(())
 }

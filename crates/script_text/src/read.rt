@@ -46,6 +46,7 @@ fn whole(draft: Draft, line: u64) -> Result<Script, ReadEnd>
         steps,
         budget,
         ended,
+        drain,
         ..
     } = draft;
     if !ended {
@@ -58,7 +59,7 @@ fn whole(draft: Draft, line: u64) -> Result<Script, ReadEnd>
             scans: Rows::new(alloc),
             steps: Rows::from_vec(steps),
             budget,
-            drain: false,
+            drain,
         }),
     }
 }

@@ -11,7 +11,7 @@ pub struct Script {
     pub steps: Rows<(u64, HostNo, Step)>,
     /// How many rounds are run at most.
     pub budget: Option<u64>,
-    /// Whether the hosts are run on behind the last step, until nothing is left to do. It can't be said yet.
+    /// Whether the hosts are run on behind the last step, until nothing is left to do.
     pub drain: bool,
 }
 

@@ -1,6 +1,5 @@
 -- What is wrong with a word at its place, and how the functions over words answer that.
 use Rattle.std.specs.Prelude.{◌≡◌, ℕ, Bool, true, false, List, Vec, length, Option, Some, None, is_some, Result, Ok, Err}
-use Rattle.std.specs.Str.{bytes_eq}
 use Rattle.std.specs.declared.alloc.Global.{Global}
 use denote.Bor.{Bor}
 use Rattle.mid_base.specs.Limits.{is_between, is_address}
@@ -46,9 +45,6 @@ bytes_fault most word = form_and_range kinds.Hex (λ b. is_between 1 most (lengt
 -- a word that is read as one of a few, or not at all
 abbrev pub choice_fault : {V : Type 0} → Kind → (List ℕ → Option V) → List ℕ → Option Kind
 choice_fault kind read word = unless_true kind (is_some (read word))
-
-abbrev pub text_fault : List ℕ → List ℕ → Option Kind
-text_fault text word = unless_true kinds.Word (bytes_eq word text)
 
 -- the word at a place where one has to stand: what it says where nothing is wrong with it, else what is wrong
 abbrev pub Gives : {V : Type 0} → (List ℕ → Option Kind) → (List ℕ → Option V) → Option (Bor (List ℕ)) → Result V Kind → Type 0

@@ -1,4 +1,4 @@
--- The words that name lines, steps, owners, faults and states.
+-- The words that name lines, steps, owners, faults, states and ends.
 use Rattle.std.specs.Prelude.{ℕ, ◌==◌, Bool, true, false, if◌then◌else◌, List, [], ◌∷◌, Option, Some, None, codes}
 use Rattle.std.specs.Str.{bytes_eq}
 use Rattle.mid_base.specs.declared.answers.By.{By}
@@ -11,6 +11,8 @@ use Rattle.script_words.specs.declared.keywords.StepName.{StepName}
 use Rattle.script_words.specs.declared.keywords.StepName.TheVariants as steps
 use Rattle.script_words.specs.declared.keywords.EhName.{EhName}
 use Rattle.script_words.specs.declared.keywords.EhName.TheVariants as recovery
+use Rattle.script_words.specs.declared.keywords.EndName.{EndName}
+use Rattle.script_words.specs.declared.keywords.EndName.TheVariants as ends
 use Rattle.script_words.specs.declared.plan_kinds.PlanKind.{PlanKind}
 use Rattle.script_words.specs.declared.plan_kinds.PlanKind.TheVariants as plans
 
@@ -54,6 +56,13 @@ eh_name word =
     else if bytes_eq word (codes "act") then Some recovery.Act
     else if bytes_eq word (codes "flush") then Some recovery.Flush
     else if bytes_eq word (codes "end") then Some recovery.End
+    else None
+
+-- the word that names how a script ends
+unfoldable pub end_name : List ℕ → Option EndName
+end_name word =
+    if bytes_eq word (codes "stop") then Some ends.Stop
+    else if bytes_eq word (codes "drain") then Some ends.Drain
     else None
 
 -- the word that names whom an attempt is given to

@@ -1,5 +1,5 @@
 ghost use Rattle.std.specs.Prelude.{◌≡◌};
-ghost use Rattle.script_words.specs.Keywords.{keyword, step_name, eh_name, owner, state, failfast};
+ghost use Rattle.script_words.specs.Keywords.{keyword, step_name, eh_name, end_name, owner, state, failfast};
 
 use mid_base::{By, DeviceState};
 
@@ -38,6 +38,14 @@ pub enum EhName {
     Act,
     Flush,
     End,
+}
+
+/// How a script ends, which the word behind `end` tells: with its last step, or with the hosts run on until nothing is left
+/// to do.
+#[derive(Clone, Copy, PartialEq, Eq, Debug)]
+pub enum EndName {
+    Stop,
+    Drain,
 }
 
 /// The kind of line that begins with this word.
@@ -126,6 +134,20 @@ pub fn eh_name_of(word: &[u8]) -> Option<EhName>
     }
     if word == b"end".as_slice() {
         return Some(EhName::End);
+    }
+    None
+}
+
+/// The end of a script that this word names.
+#[tactic(auto, unfolding(crate::specs::Keywords::end_name))]
+pub fn end_name_of(word: &[u8]) -> Option<EndName>
+    ensures { result ≡ end_name word.now }
+{
+    if word == b"stop".as_slice() {
+        return Some(EndName::Stop);
+    }
+    if word == b"drain".as_slice() {
+        return Some(EndName::Drain);
     }
     None
 }

@@ -21,11 +21,11 @@ mod plan_kinds;
 
 pub use blocks::bytes_in;
 pub use hex::{cdb_of, sense_of};
-pub use keywords::{EhName, Keyword, StepName, keyword_of};
+pub use keywords::{EhName, EndName, Keyword, StepName, keyword_of};
 pub use kind::{Kind, LineFault};
 pub use pieces::Words;
 pub use places::{
-    address_in, byte_in, eh_name_in, exactly, failfast_in, half_in, handlers_in, number_in,
+    address_in, byte_in, eh_name_in, end_name_in, failfast_in, half_in, handlers_in, number_in,
     owner_in, plan_kind_in, state_in, step_name_in,
 };
 pub use plan_kinds::PlanKind;

@@ -1,15 +1,16 @@
-ghost use Rattle.std.specs.Prelude.{◌≡◌, Some};
+ghost use Rattle.std.specs.Prelude.{◌≡◌};
 ghost use Rattle.script_words.specs.Pieces.{number};
 ghost use Rattle.script_words.specs.Hex.{hex_byte, hex_half};
 ghost use Rattle.script_words.specs.Words.{address, handlers};
-ghost use Rattle.script_words.specs.Keywords.{step_name, eh_name, plan_kind, owner, state, failfast};
-ghost use Rattle.script_words.specs.Faults.{Gives, number_fault, address_fault, choice_fault, text_fault};
+ghost use Rattle.script_words.specs.Keywords.{step_name, eh_name, end_name, plan_kind, owner, state, failfast};
+ghost use Rattle.script_words.specs.Faults.{Gives, number_fault, address_fault, choice_fault};
 
 use crate::address::address_parts;
 use crate::handlers::handlers_of;
 use crate::hex::{hex_byte, hex_half};
 use crate::keywords::{
-    EhName, StepName, eh_name_of, failfast_of, owner_of, state_of, step_name_of,
+    EhName, EndName, StepName, eh_name_of, end_name_of, failfast_of, owner_of, state_of,
+    step_name_of,
 };
 use crate::kind::Kind;
 use crate::number::number;
@@ -110,6 +111,19 @@ pub fn eh_name_in(word: Option<&[u8]>) -> Result<EhName, Kind>
     }
 }
 
+/// The next word as the end of a script.
+pub fn end_name_in(word: Option<&[u8]>) -> Result<EndName, Kind>
+    ensures { Gives (choice_fault Kind.Word end_name) end_name word.entry result }
+{
+    let Some(word) = word else {
+        return Err(Kind::Missing);
+    };
+    match end_name_of(word) {
+        None => Err(Kind::Word),
+        Some(name) => Ok(name),
+    }
+}
+
 /// The next word as the kind of a planned fault.
 pub fn plan_kind_in(word: Option<&[u8]>) -> Result<PlanKind, Kind>
     ensures { Gives (choice_fault Kind.Word plan_kind) plan_kind word.entry result }
@@ -172,19 +186,5 @@ pub fn half_in(word: Option<&[u8]>) -> Result<u8, Kind>
     match hex_half(word) {
         None => Err(Kind::Hex),
         Some(half) => Ok(half),
-    }
-}
-
-/// The next word has to be `text`.
-pub fn exactly(word: Option<&[u8]>, text: &[u8]) -> Result<(), Kind>
-    ensures { Gives (text_fault text.now) (λ w. Some tt) word.entry result }
-{
-    let Some(word) = word else {
-        return Err(Kind::Missing);
-    };
-    if word == text {
-        Ok(())
-    } else {
-        Err(Kind::Word)
     }
 }
