@@ -1,1 +1,1 @@
-mod Greatest
+pub mod Greatest

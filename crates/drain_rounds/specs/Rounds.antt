@@ -114,13 +114,13 @@ abbrev pub is_drained : HostSpec → List Entry → Bool
 is_drained s P = list_all (is_done P) s.cmds
 
 -- time goes on where the host isn't drained and nothing bars it
-abbrev pub GoesOn : Bool → HostSpec → Before → List Entry → List Entry → Type 0
-GoesOn true s b P Q = Q ≡ P
-GoesOn false s b P Q = (why : Option Why) × Comes s b P step.Tick why Q
+abbrev pub PassesTime : Bool → HostSpec → Before → List Entry → List Entry → Type 0
+PassesTime true s b P Q = Q ≡ P
+PassesTime false s b P Q = (why : Option Why) × Comes s b P step.Tick why Q
 
 -- one phase after the other, each on what the one before left, and then time
 abbrev pub Round : HostSpec → Before → List Entry → List Entry → Type 0
-Round s b P Q = (R : List Entry) × Passes phases s b P R × GoesOn (is_drained s R) s b R Q
+Round s b P Q = (R : List Entry) × Passes phases s b P R × PassesTime (is_drained s R) s b R Q
 
 abbrev pub Where : Bool → Type 0 → Type 0 → Type 0
 Where true A B = A

@@ -1,6 +1,7 @@
 -- The first claim of a side is that of the least attempt that waits for it.
 use Rattle.std.proofs.Common.{◌≡◌, ℕ, zero, suc, ◌<◌, ◌≤◌, ◌+◌, Bool, true, false, ◌&&◌, ◌==◌, List, [], ◌∷◌, ◌++◌, Option, None, Some, refl, sym, ap, ◌∙◌, subst, inl, inr, arith, one-add}
-use Rattle.std.specs.Prelude.{find, option_map, option_or, reverse}
+use Rattle.std.specs.Prelude.{find, option_map}
+use Rattle.std.specs.Option.{option_or}
 use Rattle.std.proofs.lemmas.Bool.{cases_Bool, cases_lt, eqb-true}
 use Rattle.std.proofs.lemmas.List.Folds.{find-append}
 use Rattle.mid_base.specs.declared.names.Attempt.{Attempt}
@@ -39,11 +40,11 @@ open_within s n (Sent c m t ∷ P) each h = elim (cases_Bool (m.0 == n)) [
   | inr isnt ↦ let before = open_within s n P each.1 (rw isnt at h) in (before.0, omega (arith, before.1))
 ]
 open_within s n (Bounced c m why ∷ P) each h = elim (cases_Bool (m.0 == n)) [
-  | inl is ↦ absurd (let none_is : false ≡ true = rw is at h in cc none_is)
+  | inl is ↦ absurd (let fails : false ≡ true = rw is at h in cc fails)
   | inr isnt ↦ open_within s n P each.1 (rw isnt at h)
 ]
 open_within s n (Owned m by ∷ P) each h = elim (cases_Bool (m.0 == n)) [
-  | inl is ↦ absurd (let none_is : false ≡ true = rw is at h in cc none_is)
+  | inl is ↦ absurd (let fails : false ≡ true = rw is at h in cc fails)
   | inr isnt ↦ open_within s n P each.1 (rw isnt at h)
 ]
 open_within s n (e ∷ P) each h = open_within s n P each.1 h
@@ -66,12 +67,12 @@ claim_if false c = None
 
 found_of : (P : List Entry) (by : By) (n : ℕ) → find (is_by by) (claims_of P n) ≡ claim_if (waits_for P by n) (tag_for n P, record { 0 = n }, by)
 found_of P ByAnswer n = elim (cases_Bool (is_open n P && is_answered n P)) [
-  | inl good ↦ rw good refl
-  | inr none_is ↦ elim (cases_Bool (is_open n P && is_due n P)) [ inl due ↦ rw (none_is, due) refl | inr in_time ↦ rw (none_is, in_time) refl ]
+  | inl passes ↦ rw passes refl
+  | inr fails ↦ elim (cases_Bool (is_open n P && is_due n P)) [ inl due ↦ rw (fails, due) refl | inr in_time ↦ rw (fails, in_time) refl ]
 ]
 found_of P ByExpiry n = elim (cases_Bool (is_open n P && is_due n P)) [
-  | inl due ↦ elim (cases_Bool (is_open n P && is_answered n P)) [ inl good ↦ rw (due, good) refl | inr none_is ↦ rw (due, none_is) refl ]
-  | inr in_time ↦ elim (cases_Bool (is_open n P && is_answered n P)) [ inl good ↦ rw (in_time, good) refl | inr none_is ↦ rw (in_time, none_is) refl ]
+  | inl due ↦ elim (cases_Bool (is_open n P && is_answered n P)) [ inl passes ↦ rw (due, passes) refl | inr fails ↦ rw (due, fails) refl ]
+  | inr in_time ↦ elim (cases_Bool (is_open n P && is_answered n P)) [ inl passes ↦ rw (in_time, passes) refl | inr fails ↦ rw (in_time, fails) refl ]
 ]
 
 -- the least number up to k, but 0, that passes
@@ -82,14 +83,14 @@ IsFirstTo k w (Some c) = (w c.1.0 ≡ true) × (c.1.0 ≤ k) × ((n : ℕ) → 0
 one_more : (k : ℕ) (w : ℕ → Bool) (x : Option Claim) (c : Claim) → c.1.0 ≡ suc k → IsFirstTo k w x → IsFirstTo (suc k) w (option_or x (claim_if (w (suc k)) c))
 one_more k w (Some d) c e h = (h.0, omega (arith, h.1), h.2)
 one_more k w None c e h = elim (cases_Bool (w (suc k))) [
-  | inl good ↦ rw good (subst (λ (n : ℕ). w n ≡ true) (sym e) good, omega (arith, e), λ n pos lt. h n pos (omega (arith, lt, e)))
-  | inr none_is ↦ rw none_is (λ n pos le. last n pos le none_is)
+  | inl passes ↦ rw passes (subst (λ (n : ℕ). w n ≡ true) (sym e) passes, omega (arith, e), λ n pos lt. h n pos (omega (arith, lt, e)))
+  | inr fails ↦ rw fails (λ n pos le. last n pos le fails)
 ]
   where
     last : (n : ℕ) → 0 < n → n ≤ suc k → w (suc k) ≡ false → w n ≡ false
-    last n pos le none_is = elim (cases_lt n (suc k)) [
+    last n pos le fails = elim (cases_lt n (suc k)) [
       | inl lt ↦ h n pos (omega (arith, lt))
-      | inr ge ↦ let same : suc k ≡ n = omega (arith, ge, le) in subst (λ (m : ℕ). w m ≡ false) same none_is
+      | inr ge ↦ let same : suc k ≡ n = omega (arith, ge, le) in subst (λ (m : ℕ). w m ≡ false) same fails
     ]
 
 first_to : (P : List Entry) (by : By) (k : ℕ) → IsFirstTo k (waits_for P by) (find (is_by by) (claims_among P (countdown k)))
@@ -102,12 +103,12 @@ first_to P by (suc k) =
 
 at_all : (s : HostSpec) (P : List Entry) (by : By) → EachStands s P → (x : Option Claim) → IsFirstTo (sends P) (waits_for P by) x → IsFirstClaim by P (option_map (λ c. c.1) x)
 at_all s P by each None h = λ n. elim (cases_Bool (waits_for P by n)) [
-  | inl good ↦ let within = open_within s n P each (waits_open P by n good) in absurd (cc (sym (h n within.0 within.1) ∙ good))
-  | inr none_is ↦ none_is
+  | inl passes ↦ let within = open_within s n P each (waits_open P by n passes) in absurd (cc (sym (h n within.0 within.1) ∙ passes))
+  | inr fails ↦ fails
 ]
 at_all s P by each (Some c) h = (h.0, λ n lt. elim (cases_Bool (waits_for P by n)) [
-  | inl good ↦ let within = open_within s n P each (waits_open P by n good) in absurd (cc (sym (h.2 n within.0 lt) ∙ good))
-  | inr none_is ↦ none_is
+  | inl passes ↦ let within = open_within s n P each (waits_open P by n passes) in absurd (cc (sym (h.2 n within.0 lt) ∙ passes))
+  | inr fails ↦ fails
 ])
 
 pub first_claim : (s : HostSpec) (P : List Entry) (by : By) → ByGroups s P → IsFirstClaim by P (option_map (λ c. c.1) (find (is_by by) (waiting_claims P)))

@@ -22,29 +22,29 @@ use Rattle.drain_rounds.specs.Rounds.{earlier, first_stopped, is_stopped}
 use Rattle.mid_core.specs.Steps.{may_enter}
 use Rattle.play_sched.specs.Rest.{IsAwake, IsHandedInBelow, stops_none}
 
--- none passes a test that passes none_is more than another
+-- none passes a test that passes no more than another
 none_less : {A : Type 0} → (p q : A → Bool) (xs : List A) → ((x : A) → q x ≡ true → p x ≡ true) → find p xs ≡ None → find q xs ≡ None
 none_less p q [] less h = refl
 none_less p q (x ∷ xs) less h = elim (cases_Bool (q x)) [
-  | inl good ↦ absurd (let is : Some x ≡ None = rw (less x good) at h in cc is)
-  | inr none_is ↦ elim (cases_Bool (p x)) [
-    | inl good ↦ absurd (let is : Some x ≡ None = rw good at h in cc is)
-    | inr not ↦ let rest : find p xs ≡ None = rw not at h in rw none_is (none_less p q xs less rest)
+  | inl passes ↦ absurd (let is : Some x ≡ None = rw (less x passes) at h in cc is)
+  | inr fails ↦ elim (cases_Bool (p x)) [
+    | inl passes ↦ absurd (let is : Some x ≡ None = rw passes at h in cc is)
+    | inr not ↦ let rest : find p xs ≡ None = rw not at h in rw fails (none_less p q xs less rest)
   ]
 ]
 
 new_before : (c : ℕ) (e : Entry) (P : List Entry) → is_new (standing c (e ∷ P)) ≡ true → is_new (standing c P) ≡ true
-new_before c (Took d) P h = elim (cases_Bool (d.0 == c)) [ inl is ↦ absurd (let none_is : false ≡ true = rw is at h in cc none_is) | inr isnt ↦ rw isnt at h ]
-new_before c (Sent d n t) P h = elim (cases_Bool (d.0 == c)) [ inl is ↦ absurd (let none_is : false ≡ true = rw is at h in cc none_is) | inr isnt ↦ rw isnt at h ]
-new_before c (Bounced d n why) P h = elim (cases_Bool (d.0 == c)) [ inl is ↦ absurd (let none_is : false ≡ true = rw is at h in cc none_is) | inr isnt ↦ rw isnt at h ]
-new_before c (Again d counted) P h = elim (cases_Bool (d.0 == c)) [ inl is ↦ absurd (let none_is : false ≡ true = rw is at h in cc none_is) | inr isnt ↦ rw isnt at h ]
-new_before c (Told d a) P h = elim (cases_Bool (d.0 == c)) [ inl is ↦ absurd (let none_is : false ≡ true = rw is at h in cc none_is) | inr isnt ↦ rw isnt at h ]
+new_before c (Took d) P h = elim (cases_Bool (d.0 == c)) [ inl is ↦ absurd (let fails : false ≡ true = rw is at h in cc fails) | inr isnt ↦ rw isnt at h ]
+new_before c (Sent d n t) P h = elim (cases_Bool (d.0 == c)) [ inl is ↦ absurd (let fails : false ≡ true = rw is at h in cc fails) | inr isnt ↦ rw isnt at h ]
+new_before c (Bounced d n why) P h = elim (cases_Bool (d.0 == c)) [ inl is ↦ absurd (let fails : false ≡ true = rw is at h in cc fails) | inr isnt ↦ rw isnt at h ]
+new_before c (Again d counted) P h = elim (cases_Bool (d.0 == c)) [ inl is ↦ absurd (let fails : false ≡ true = rw is at h in cc fails) | inr isnt ↦ rw isnt at h ]
+new_before c (Told d a) P h = elim (cases_Bool (d.0 == c)) [ inl is ↦ absurd (let fails : false ≡ true = rw is at h in cc fails) | inr isnt ↦ rw isnt at h ]
 new_before c e P h = h
 
 left_before : (lane : ℕ) (e : Entry) (P : List Entry) (k : CmdSpec) → is_left lane (e ∷ P) k ≡ true → is_left lane P k ≡ true
 left_before lane e P k h = elim (cases_Bool (k.lane.0 == lane)) [
   | inl is ↦ rw is (new_before k.id.0 e P (rw is at h))
-  | inr isnt ↦ absurd (let none_is : false ≡ true = rw isnt at h in cc none_is)
+  | inr isnt ↦ absurd (let fails : false ≡ true = rw isnt at h in cc fails)
 ]
 
 lane_stays : (s : HostSpec) (lane : ℕ) (g P : List Entry) → next_of_lane s P lane ≡ None → next_of_lane s (onto g P) lane ≡ None
@@ -54,7 +54,7 @@ lane_stays s lane (e ∷ g) P h = lane_stays s lane g (e ∷ P) (none_less (is_l
 pub handed_stays : (s : HostSpec) (n : ℕ) (g P : List Entry) → IsHandedInBelow n s P → IsHandedInBelow n s (onto g P)
 handed_stays s n g P h lane lt = lane_stays s lane g P (h lane lt)
 
--- a step that stops none_is device sets none to a state in which it is stopped
+-- a step that stops fails device sets none to a state in which it is stopped
 set_runs : (d : DevAddr) (x : DeviceState) (e : DevAddr) (y : DeviceState) → stops_none (SetState d x) ≡ true → may_enter (SetState d x) (State e y) ≡ true → is_stopped y ≡ false
 set_runs d x e y none may = grind arith
 
@@ -65,11 +65,11 @@ enters_runs t e y none may = absurd (cc may)
 stopped_before : (s : HostSpec) (t : Step) (d : DevAddr) (e : Entry) (P : List Entry) → stops_none t ≡ true → may_enter t e ≡ true
     → is_stopped (state s d (e ∷ P)) ≡ true → is_stopped (state s d P) ≡ true
 stopped_before s t d (State e y) P none may h = elim (cases_Bool (same_dev e d)) [
-  | inl is ↦ absurd (let good : is_stopped y ≡ true = rw is at h in cc (sym (enters_runs t e y none may) ∙ good))
+  | inl is ↦ absurd (let passes : is_stopped y ≡ true = rw is at h in cc (sym (enters_runs t e y none may) ∙ passes))
   | inr isnt ↦ rw isnt at h
 ]
 stopped_before s t d (Offline e) P none may h = elim (cases_Bool (same_dev e d)) [
-  | inl is ↦ absurd (let none_is : false ≡ true = rw is at h in cc none_is)
+  | inl is ↦ absurd (let fails : false ≡ true = rw is at h in cc fails)
   | inr isnt ↦ rw isnt at h
 ]
 stopped_before s t d e P none may h = h
@@ -78,10 +78,10 @@ none_stopped : (s : HostSpec) (e : Entry) (P : List Entry) → ((d : DevAddr) �
     → (luns : List LunSpec) → first_stopped s P luns ≡ None → first_stopped s (e ∷ P) luns ≡ None
 none_stopped s e P less [] h = refl
 none_stopped s e P less (l ∷ luns) h = elim (cases_Bool (is_stopped (state s l.dev P))) [
-  | inl good ↦ absurd (let some : Some (earlier l.dev (first_stopped s P luns)) ≡ None = rw good at h in cc some)
-  | inr none_is ↦
-      let isnt : is_stopped (state s l.dev (e ∷ P)) ≡ false = not_true (is_stopped (state s l.dev (e ∷ P))) (λ good. cc (sym none_is ∙ less l.dev good)) in
-      rw isnt (none_stopped s e P less luns (rw none_is at h))
+  | inl passes ↦ absurd (let some : Some (earlier l.dev (first_stopped s P luns)) ≡ None = rw passes at h in cc some)
+  | inr fails ↦
+      let isnt : is_stopped (state s l.dev (e ∷ P)) ≡ false = not_true (is_stopped (state s l.dev (e ∷ P))) (λ passes. cc (sym fails ∙ less l.dev passes)) in
+      rw isnt (none_stopped s e P less luns (rw fails at h))
 ]
   where
     not_true : (x : Bool) → (x ≡ true → ⊥) → x ≡ false
@@ -91,6 +91,6 @@ none_stopped s e P less (l ∷ luns) h = elim (cases_Bool (is_stopped (state s l
 pub awake_stays : (s : HostSpec) (t : Step) (g P : List Entry) → stops_none t ≡ true → list_all (may_enter t) g ≡ true → IsAwake s P → IsAwake s (onto g P)
 awake_stays s t [] P none may h = h
 awake_stays s t (e ∷ g) P none may h = elim (cases_Bool (may_enter t e)) [
-  | inl good ↦ awake_stays s t g (e ∷ P) none (rw good at may) (none_stopped s e P (λ d. stopped_before s t d e P none good) s.luns h)
-  | inr none_is ↦ absurd (let never : false ≡ true = rw none_is at may in cc never)
+  | inl passes ↦ awake_stays s t g (e ∷ P) none (rw passes at may) (none_stopped s e P (λ d. stopped_before s t d e P none passes) s.luns h)
+  | inr fails ↦ absurd (let never : false ≡ true = rw fails at may in cc never)
 ]

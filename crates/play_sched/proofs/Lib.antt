@@ -6,3 +6,7 @@ mod Steps
 mod Next
 mod Walk
 mod Claims
+mod Lanes
+mod Joined
+mod Lines
+mod Runs

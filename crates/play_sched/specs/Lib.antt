@@ -2,3 +2,4 @@ pub mod Tmp
 pub mod Rest
 pub mod Runs
 pub mod Phases
+pub mod Played

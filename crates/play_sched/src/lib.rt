@@ -8,7 +8,8 @@
 mod draining;
 mod host;
 mod phases;
+mod playing;
 mod rounds;
 
-pub use draining::drain;
 pub use host::Host;
+pub use playing::{Played, play_script};

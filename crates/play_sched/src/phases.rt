@@ -67,6 +67,7 @@ pub fn exhaust(host: &mut Host, phase: Phase) -> Result<(), NoMemory>
         if host.make(step)?.is_some() {
             return Ok(());
         }
+        let _ = host.count();
     }
 }
 
@@ -94,5 +95,6 @@ fn hand_in_lane(host: &mut Host, lane: u8) -> Result<(), NoMemory>
         if host.make(Step::Submit(LaneNo(lane)))?.is_some() {
             return Ok(());
         }
+        let _ = host.count();
     }
 }

@@ -1,5 +1,5 @@
 ghost use Rattle.std.specs.Prelude.{◌≡◌, true, OnOk, IfOk};
-ghost use Rattle.drain_rounds.specs.Rounds.{GoesOn as TimeGoesOn, Passes, Round, is_drained};
+ghost use Rattle.drain_rounds.specs.Rounds.{Exhausts, Passes, PassesTime, Round, hand_in, is_drained, wake};
 ghost use Rattle.play_sched.specs.Phases.{IsAtRest, first_phases, middle_phases, last_phases};
 ghost use Rattle.play_sched.specs.Rest.{GoesOn};
 
@@ -24,7 +24,8 @@ pub fn round(host: &mut Host, rest: &mut Rest) -> Result<(), NoMemory>
     take_up(host, rest)?;
     answer(host)?;
     recover(host)?;
-    go_on(host)
+    go_on(host)?;
+    Ok(())
 }
 
 // Wakes the devices and hands the lanes in, where that isn't over.
@@ -34,14 +35,36 @@ fn take_up(host: &mut Host, rest: &mut Rest) -> Result<(), NoMemory>
     ensures rest { OnOk result (IsAtRest rest.new host.new) }
     ensures goes { OnOk result (GoesOn host.old host.new) }
 {
-    if !rest.awake {
-        exhaust(host, Phase::Wake)?;
-        rest.awake = host.first_stopped().is_none();
+    wake_up(host, rest)?;
+    hand_over(host, rest)?;
+    Ok(())
+}
+
+fn wake_up(host: &mut Host, rest: &mut Rest) -> Result<(), NoMemory>
+    requires { IsAtRest rest.old host.old }
+    ensures made { OnOk result (Exhausts wake host.old.spec host.old.before host.old.entries host.new.entries) }
+    ensures rest { OnOk result (IsAtRest rest.new host.new) }
+    ensures goes { OnOk result (GoesOn host.old host.new) }
+{
+    if rest.awake {
+        return Ok(());
     }
-    if !rest.handed_in {
-        hand_in(host)?;
-        rest.handed_in = true;
+    exhaust(host, Phase::Wake)?;
+    rest.awake = host.first_stopped().is_none();
+    Ok(())
+}
+
+fn hand_over(host: &mut Host, rest: &mut Rest) -> Result<(), NoMemory>
+    requires { IsAtRest rest.old host.old }
+    ensures made { OnOk result (Exhausts hand_in host.old.spec host.old.before host.old.entries host.new.entries) }
+    ensures rest { OnOk result (IsAtRest rest.new host.new) }
+    ensures goes { OnOk result (GoesOn host.old host.new) }
+{
+    if rest.handed_in {
+        return Ok(());
     }
+    hand_in(host)?;
+    rest.handed_in = true;
     Ok(())
 }
 
@@ -56,7 +79,8 @@ fn answer(host: &mut Host) -> Result<(), NoMemory>
     exhaust(host, Phase::Ask)?;
     exhaust(host, Phase::Work)?;
     exhaust(host, Phase::Claim(By::Answer))?;
-    exhaust(host, Phase::Claim(By::Expiry))
+    exhaust(host, Phase::Claim(By::Expiry))?;
+    Ok(())
 }
 
 // Settles what is owned, and recovers.
@@ -70,16 +94,18 @@ fn recover(host: &mut Host) -> Result<(), NoMemory>
     exhaust(host, Phase::EhBegin)?;
     exhaust(host, Phase::EhAct)?;
     exhaust(host, Phase::EhFlush)?;
-    exhaust(host, Phase::EhEnd)
+    exhaust(host, Phase::EhEnd)?;
+    Ok(())
 }
 
 // Lets time go on where the host isn't drained.
 fn go_on(host: &mut Host) -> Result<(), NoMemory>
-    ensures made { OnOk result (TimeGoesOn (is_drained host.old.spec host.old.entries) host.old.spec host.old.before host.old.entries host.new.entries) }
+    ensures made { OnOk result (PassesTime (is_drained host.old.spec host.old.entries) host.old.spec host.old.before host.old.entries host.new.entries) }
     ensures goes { OnOk result (GoesOn host.old host.new) }
 {
-    if !host.is_drained() {
-        let _ = host.make(Step::Tick)?;
+    if host.is_drained() {
+        return Ok(());
     }
+    let _ = host.make(Step::Tick)?;
     Ok(())
 }

@@ -6,6 +6,8 @@
 mod barred_rows;
 mod reading;
 #[cfg(test)]
+mod drain_rows;
+#[cfg(test)]
 mod recovery_rows;
 #[cfg(test)]
 mod rows;

@@ -1,4 +1,5 @@
 use crate::barred_rows::BARRED;
+use crate::drain_rows::{DRAINED, SHORT};
 use crate::recovery_rows::RECOVERIES;
 use crate::rows::{ENDS, FIRST, PLAYED};
 use crate::timeout_rows::TIMEOUTS;
@@ -55,6 +56,24 @@ fn scripts_with_recovery_are_played(rt: HostRuntime) -> Result<(), Fail> {
     for (script, text) in RECOVERIES {
         let (_, written) = ends(rt.alloc(), script, 0, 0)?;
         assert_eq!(rt; written.as_slice(), text.as_bytes(), "the text of {script}");
+    }
+    Ok(())
+}
+
+#[test]
+fn scripts_are_drained(rt: HostRuntime) -> Result<(), Fail> {
+    for (script, text) in DRAINED {
+        let (status, written) = ends(rt.alloc(), script, 0, 0)?;
+        assert_eq!(rt; (status, written.as_slice()), (Status(0), text.as_bytes()), "{script}");
+    }
+    Ok(())
+}
+
+#[test]
+fn rounds_are_used_up(rt: HostRuntime) -> Result<(), Fail> {
+    for (script, text) in SHORT {
+        let (status, written) = ends(rt.alloc(), script, 0, 0)?;
+        assert_eq!(rt; (status, written.as_slice()), (Status(6), text.as_bytes()), "{script}");
     }
     Ok(())
 }
