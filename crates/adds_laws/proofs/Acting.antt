@@ -1,8 +1,8 @@
 -- What EhAct begins with: the next act, and whether it is ok.
-use Rattle.std.proofs.Common.{◌≡◌, ◌⊎◌, ℕ, ◌==◌, Bool, true, false, ◌&&◌, cond, filter, List, [], ◌∷◌, Option, None, Some, refl, sym, ap, ap₂, ◌∙◌, subst, inl, inr, ⊎_elim, find}
+use Rattle.std.proofs.Common.{◌≡◌, ◌⊎◌, ℕ, Bool, true, false, ◌&&◌, filter, List, [], ◌∷◌, Some, refl, sym, ap, ap₂, ◌∙◌, subst, inl, inr, ⊎_elim}
 use mathlib.Core.Bool.{beq}
 use Rattle.std.specs.List.{list_any}
-use Rattle.std.proofs.lemmas.Bool.{cases_Bool, and_parts, and_right, or_cases, or_from}
+use Rattle.std.proofs.lemmas.Bool.{cases_Bool, and_parts, and_right, or_from}
 use Rattle.std.proofs.lemmas.Bool.Decides.{eqb_tells}
 use Rattle.std.proofs.lemmas.Option.{same_Some}
 use Rattle.mid_base.specs.declared.names.DevAddr.{DevAddr}
@@ -14,7 +14,7 @@ use Rattle.mid_base.specs.declared.steps.Step.TheVariants.{EhAct}
 use Rattle.mid_base.specs.declared.host_spec.HostSpec.{HostSpec}
 use Rattle.mid_base.specs.Answers.{said_good}
 use Rattle.mid_base.specs.Codes.{start_stop_unit}
-use Rattle.mid_base.specs.Levels.{Level, fetch_sense, abort, start_unit, reset_device, reset_target, reset_bus, reset_host, give_up, not_online, no_level, level_of, can_succeed, can_fail}
+use Rattle.mid_base.specs.Levels.{Level, start_unit, give_up, not_online, no_level, level_of}
 use Rattle.host_template.specs.Standing.{Before}
 use Rattle.disposition.specs.declared.todo.Todo.{Todo}
 use Rattle.disposition.specs.Ladder.{is_in_scope, is_of_kind, Pair, pairs, is_wanted_pair, beyond}
@@ -22,7 +22,6 @@ use Rattle.trace_model.specs.Devices.{has_begun}
 use Rattle.trace_model.specs.Course.{Course, ask, Follows}
 use Rattle.trace_model.specs.Climb.{climb, start_for}
 use Rattle.trace_model.specs.Recovery.{todo, listed, last_act, next_act, is_quiet, may_act}
-use Rattle.trace_model.specs.Rules.{Allowed, course}
 use Rattle.trace_model.specs.Steps.{opens}
 use Rattle.trace_model.specs.Legal.{onto, Group}
 use Rattle.step_laws.proofs.Sends.{found_has}

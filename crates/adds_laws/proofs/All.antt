@@ -10,8 +10,7 @@ use Rattle.mid_base.specs.declared.steps.Step.TheVariants.{Submit, Send, Work, D
 use Rattle.mid_base.specs.declared.host_spec.HostSpec.{HostSpec}
 use Rattle.host_template.specs.Standing.{Before}
 use Rattle.trace_model.specs.Steps.{opens, IsAdded}
-use Rattle.trace_model.specs.Legal.{onto, Group, ByGroups, EachStands}
-use Rattle.trace_model.proofs.Readings.{by_places}
+use Rattle.trace_model.specs.Legal.{onto, Group}
 use Rattle.debug_adapter.specs.LowerRun.{LowerRun}
 use Rattle.mid_core.specs.Steps.{AddsTo, Opens}
 use Rattle.adds_laws.proofs.Along.{Ran, ran, says_there, group_one}
@@ -44,31 +43,31 @@ grouped s b P t [] k o a r = absurd o
 grouped s b P t (Sent c n x ∷ g) k o a r = absurd (no_sent s P t c n x k o)
 grouped s b P t (e ∷ g) k o a r = record { opener = e; rest = g; list = refl; opened = o; group = a; borne_out = r }
 
-same_opener : (s : HostSpec) (b : Before) (P : List Entry) (t : Step) (g h : List Entry) → is_send t ≡ false → EachStands s P → (x : Grouped s b P t g) → (y : Grouped s b P t h) → x.opener ≡ y.opener
-same_opener s b P Send g h k each x y = cc k
-same_opener s b P (Submit lane) g h k each x y = submits_one s P lane x.opener y.opener x.opened x.group.0 y.opened y.group.0
-same_opener s b P Work g h k each x y =
+same_opener : (s : HostSpec) (b : Before) (P : List Entry) (t : Step) (g h : List Entry) → is_send t ≡ false → (x : Grouped s b P t g) → (y : Grouped s b P t h) → x.opener ≡ y.opener
+same_opener s b P Send g h k x y = cc k
+same_opener s b P (Submit lane) g h k x y = submits_one s P lane x.opener y.opener x.opened x.group.0 y.opened y.group.0
+same_opener s b P Work g h k x y =
     works_one s b P x.opener y.opener x.opened (says_there s b x.opener x.rest P x.borne_out) y.opened (says_there s b y.opener y.rest P y.borne_out)
-same_opener s b P Due g h k each x y =
+same_opener s b P Due g h k x y =
     asks_one s b P x.opener y.opener x.opened x.group.0 (says_there s b x.opener x.rest P x.borne_out) y.opened y.group.0 (says_there s b y.opener y.rest P y.borne_out)
-same_opener s b P (Own n by) g h k each x y = owns_one s P n by x.opener y.opener x.opened y.opened
-same_opener s b P (Settle n) g h k each x y = settles_one s P n x.opener y.opener x.opened x.group.0 y.opened y.group.0
-same_opener s b P (Drop n) g h k each x y = drops_one s P n x.opener y.opener x.opened y.opened
-same_opener s b P Abort g h k each x y =
+same_opener s b P (Own n by) g h k x y = owns_one s P n by x.opener y.opener x.opened y.opened
+same_opener s b P (Settle n) g h k x y = settles_one s P n x.opener y.opener x.opened x.group.0 y.opened y.group.0
+same_opener s b P (Drop n) g h k x y = drops_one s P n x.opener y.opener x.opened y.opened
+same_opener s b P Abort g h k x y =
     aborts_one s b P x.opener y.opener x.opened x.group.0 (says_there s b x.opener x.rest P x.borne_out) y.opened y.group.0 (says_there s b y.opener y.rest P y.borne_out)
-same_opener s b P EhBegin g h k each x y = begins_one s P x.opener y.opener x.opened y.opened
-same_opener s b P EhAct g h k each x y = acts_one s b P x.opener y.opener x.rest y.rest x.opened x.group x.borne_out y.opened y.group y.borne_out
-same_opener s b P EhFlush g h k each x y = flushes_one s P x.opener y.opener each x.opened x.group.0 y.opened y.group.0
-same_opener s b P EhEnd g h k each x y = ends_one s P x.opener y.opener x.opened y.opened
-same_opener s b P Tick g h k each x y = ticks_one s P x.opener y.opener x.opened y.opened
-same_opener s b P (SetState d z) g h k each x y = sets_one s P d z x.opener y.opener x.opened y.opened
+same_opener s b P EhBegin g h k x y = begins_one s P x.opener y.opener x.opened y.opened
+same_opener s b P EhAct g h k x y = acts_one s b P x.opener y.opener x.rest y.rest x.opened x.group x.borne_out y.opened y.group y.borne_out
+same_opener s b P EhFlush g h k x y = flushes_one s P x.opener y.opener x.opened x.group.0 y.opened y.group.0
+same_opener s b P EhEnd g h k x y = ends_one s P x.opener y.opener x.opened y.opened
+same_opener s b P Tick g h k x y = ticks_one s P x.opener y.opener x.opened y.opened
+same_opener s b P (SetState d z) g h k x y = sets_one s P d z x.opener y.opener x.opened y.opened
 
-one_group : (s : HostSpec) (b : Before) (P : List Entry) (t : Step) (g h : List Entry) → is_send t ≡ false → EachStands s P → Grouped s b P t g → Grouped s b P t h → g ≡ h
-one_group s b P t g h k each x y =
-    x.list ∙ (group_one s b P x.opener y.opener x.rest y.rest (same_opener s b P t g h k each x y) x.group.1 x.borne_out y.group.1 y.borne_out ∙ sym y.list)
+one_group : (s : HostSpec) (b : Before) (P : List Entry) (t : Step) (g h : List Entry) → is_send t ≡ false → Grouped s b P t g → Grouped s b P t h → g ≡ h
+one_group s b P t g h k x y =
+    x.list ∙ (group_one s b P x.opener y.opener x.rest y.rest (same_opener s b P t g h k x y) x.group.1 x.borne_out y.group.1 y.borne_out ∙ sym y.list)
 
-pub adds_one : (s : HostSpec) (b : Before) (P : List Entry) (t : Step) (due : Bool) (g h : List Entry) → ByGroups s P
-    → AddsTo s due P t g → LowerRun s b (onto g P) → AddsTo s due P t h → LowerRun s b (onto h P) → g ≡ h
-adds_one s b P Send due g h legal x q y r = send_one s b P g h x.opened x.added q y.opened y.added r
-adds_one s b P t due g h legal x q y r =
-    one_group s b P t g h refl (by_places s P legal).each (grouped s b P t g refl x.opened x.added (ran s b (onto g P) q)) (grouped s b P t h refl y.opened y.added (ran s b (onto h P) r))
+pub adds_one : (s : HostSpec) (b : Before) (P : List Entry) (t : Step) (due other : Bool) (g h : List Entry)
+    → AddsTo s due P t g → LowerRun s b (onto g P) → AddsTo s other P t h → LowerRun s b (onto h P) → g ≡ h
+adds_one s b P Send due other g h x q y r = send_one s b P g h x.opened x.added q y.opened y.added r
+adds_one s b P t due other g h x q y r =
+    one_group s b P t g h refl (grouped s b P t g refl x.opened x.added (ran s b (onto g P) q)) (grouped s b P t h refl y.opened y.added (ran s b (onto h P) r))

@@ -12,8 +12,8 @@ use Rattle.mid_base.specs.declared.entries.Entry.TheVariants.{Sent, Bounced, Rea
 use Rattle.mid_base.proofs.Same.{same_sense}
 use Rattle.host_template.specs.Standing.{Before}
 use Rattle.trace_model.specs.Course.{Course, suits, over, next, ask, fetch, IsOver, Meets, after, Follows}
-use Rattle.trace_model.specs.Rules.{Allowed, course}
-use Rattle.trace_model.specs.Legal.{onto, Group}
+use Rattle.trace_model.specs.Rules.{course}
+use Rattle.trace_model.specs.Legal.{onto}
 use Rattle.debug_adapter.specs.LowerRun.{LowerRun}
 use Rattle.debug_adapter.proofs.Once.{probe_once}
 

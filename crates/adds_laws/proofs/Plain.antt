@@ -1,5 +1,5 @@
 -- The openers of the steps that name their entry, and of Submit.
-use Rattle.std.proofs.Common.{◌≡◌, ◌⊎◌, ℕ, ◌==◌, Bool, true, false, not, ◌&&◌, cond, List, Option, None, Some, refl, sym, ap, ap₂, ◌∙◌, subst}
+use Rattle.std.proofs.Common.{◌≡◌, ℕ, ◌==◌, Bool, true, not, cond, List, Option, None, Some, refl, sym, ap, ap₂, ◌∙◌, subst}
 use Rattle.std.proofs.lemmas.Bool.{eqb-true, and_parts, not-true}
 use Rattle.std.proofs.lemmas.Option.{same_Some}
 use Rattle.mid_base.specs.declared.names.CmdId.{CmdId}
@@ -98,8 +98,7 @@ handed s P c = cond (is_closed (state s (dev_of s c.0) P)) (Told c no_connect) (
 submits : (s : HostSpec) (P : List Entry) (lane : LaneNo) (e : Entry) → opens s P (Submit lane) e ≡ true → Allowed s P e
     → (c : CmdId) × (is_command c.0 (next_of_lane s P lane.0) ≡ true) × (e ≡ handed s P c)
 submits s P lane (Took c) o al =
-    let parts = and_parts (is_next_of_lane s P c.0) (not (is_closed (state s (dev_of s c.0) P))) al in
-    (
+    let parts = and_parts (is_next_of_lane s P c.0) (not (is_closed (state s (dev_of s c.0) P))) al in (
       c,
       subst (λ (l : ℕ). is_command c.0 (next_of_lane s P l) ≡ true) (eqb-true (command s c.0).lane.0 lane.0 o) parts.0,
       ap (λ (u : Bool). cond u (Told c no_connect) (Took c)) (sym (not-true _ parts.1)),
@@ -107,8 +106,7 @@ submits s P lane (Took c) o al =
 submits s P lane (Told c a) o al =
     let two = and_parts ((command s c.0).lane.0 == lane.0) (is_refused s P c.0) o in
     let parts = and_parts (is_next_of_lane s P c.0) (is_closed (state s (dev_of s c.0) P)) two.1 in
-    let said : Some no_connect ≡ Some a = rw two.1 at al in
-    (
+    let said : Some no_connect ≡ Some a = rw two.1 at al in (
       c,
       subst (λ (l : ℕ). is_command c.0 (next_of_lane s P l) ≡ true) (eqb-true (command s c.0).lane.0 lane.0 two.0) parts.0,
       ap (λ (x : Answer). Told c x) (sym (same_Some no_connect a said)) ∙ ap (λ (u : Bool). cond u (Told c no_connect) (Took c)) (sym parts.1),

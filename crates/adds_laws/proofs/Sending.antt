@@ -1,6 +1,6 @@
 -- What Send adds: the Sent of the command that goes next, with its Bounced where the adapter is busy, or its report.
 use Rattle.std.proofs.Common.{◌≡◌, ◌⊎◌, ℕ, zero, suc, ◌+◌, ◌<◌, ◌≤◌, ◌==◌, Bool, true, false, not, ◌&&◌, List, [], ◌∷◌, Option, None, Some, refl, sym, ap, ap₂, ◌∙◌, subst, inl, inr, ⊎_elim, arith}
-use Rattle.std.proofs.lemmas.Bool.{eqb-true, cases_Bool, and_parts, not-true, or_right}
+use Rattle.std.proofs.lemmas.Bool.{eqb-true, and_parts, not-true, or_right}
 use Rattle.std.proofs.lemmas.Bool.Decides.{eqb_tells, leb_tells}
 use Rattle.std.proofs.lemmas.Option.{same_Some}
 use Rattle.mid_base.specs.declared.names.CmdId.{CmdId}
@@ -18,7 +18,7 @@ use Rattle.trace_model.specs.Names.{dev_of}
 use Rattle.trace_model.specs.Attempts.{sends}
 use Rattle.trace_model.specs.Devices.{is_online, in_recovery}
 use Rattle.trace_model.specs.Sending.{is_held, pick, is_number, all_below, is_least_free, may_send, is_refused, is_stranded}
-use Rattle.trace_model.specs.Steps.{opens, IsAdded}
+use Rattle.trace_model.specs.Steps.{IsAdded}
 use Rattle.trace_model.specs.Legal.{onto}
 use Rattle.debug_adapter.specs.LowerRun.{LowerRun}
 use Rattle.debug_adapter.proofs.Once.{bounced_once, bounced_or_not}

@@ -1,7 +1,6 @@
 -- What Settle and Abort begin with.
-use Rattle.std.proofs.Common.{◌≡◌, ◌⊎◌, ℕ, ◌==◌, Bool, true, false, not, ◌&&◌, cond, List, [], ◌∷◌, Option, None, Some, refl, sym, ap, ap₂, ◌∙◌, subst}
+use Rattle.std.proofs.Common.{◌≡◌, ℕ, ◌==◌, Bool, true, false, not, ◌&&◌, cond, List, [], ◌∷◌, Option, None, Some, refl, sym, ap, ap₂, ◌∙◌, subst}
 use Rattle.std.proofs.lemmas.Bool.{eqb-true, and_parts, not-true}
-use Rattle.std.proofs.lemmas.Option.{same_Some}
 use Rattle.mid_base.specs.declared.names.CmdId.{CmdId}
 use Rattle.mid_base.specs.declared.names.Attempt.{Attempt}
 use Rattle.mid_base.specs.declared.answers.Answer.{Answer}
@@ -23,7 +22,7 @@ use Rattle.trace_model.specs.Devices.{has_begun}
 use Rattle.trace_model.specs.Judging.{disp_of, to_judge, to_abort, has_abort_left, is_first}
 use Rattle.trace_model.specs.Rules.{Allowed, MayJudge}
 use Rattle.trace_model.specs.Steps.{opens}
-use Rattle.debug_adapter.specs.LowerRun.{LowerRun, no_hit_at}
+use Rattle.debug_adapter.specs.LowerRun.{no_hit_at}
 use Rattle.adds_laws.proofs.Plain.{command_is, attempt_is}
 use Rattle.adds_laws.proofs.Along.{Says}
 
@@ -54,8 +53,7 @@ judge_says s P c n d (Some a) x =
     let four = and_parts (to_judge P c.0 n.0) (not (has_begun P)) x.0 in
     let two = and_parts (is_by_answer (owner n.0 P) && not (is_settled n.0 P)) (sent_for n.0 P == c.0) four.0 in
     let one = and_parts (is_by_answer (owner n.0 P)) (not (is_settled n.0 P)) two.0 in
-    let mine : sent_for n.0 P ≡ c.0 = eqb-true (sent_for n.0 P) c.0 two.1 in
-    (
+    let mine : sent_for n.0 P ≡ c.0 = eqb-true (sent_for n.0 P) c.0 two.1 in (
       one.0,
       ap (λ (v : Disp). Judged c n v) x.1 ∙ ap (λ (x : CmdId). Judged x n (disp_of s P x.0 a)) (command_is c (of_attempt P n) (sym mine)),
     )
@@ -103,8 +101,7 @@ abort_is : (s : HostSpec) (b : Before) (P : List Entry) (e : Entry) → opens s 
 abort_is s b P (Aborted c n ok) o al q =
     let two = and_parts (is_first n.0 (aborts P) && (sent_for n.0 P == c.0)) _ al in
     let one = and_parts (is_first n.0 (aborts P)) (sent_for n.0 P == c.0) two.0 in
-    let mine : c ≡ of_attempt P n = command_is c (of_attempt P n) (sym (eqb-true (sent_for n.0 P) c.0 one.1)) in
-    (
+    let mine : c ≡ of_attempt P n = command_is c (of_attempt P n) (sym (eqb-true (sent_for n.0 P) c.0 one.1)) in (
       n,
       one.0,
       ap (λ (u : Bool). Aborted c n u) q.0 ∙ ap (λ (k : CmdId). Aborted k n (has_level s.handlers 2 && no_hit_at s b P (device_of s k.0) Aborting)) mine,

@@ -1,5 +1,5 @@
 -- What Work and Due add: the next answer, and what comes of the first attempt that is past its deadline.
-use Rattle.std.proofs.Common.{◌≡◌, ◌⊎◌, ℕ, ◌==◌, ◌<◌, ◌≤◌, Bool, true, false, not, ◌&&◌, ◌||◌, List, [], ◌∷◌, Option, None, Some, refl, sym, ap, ap₂, ◌∙◌, subst, ⊎_elim, arith, nat_le, nat_lt}
+use Rattle.std.proofs.Common.{◌≡◌, ℕ, ◌==◌, Bool, true, not, ◌&&◌, ◌||◌, List, [], ◌∷◌, Option, Some, refl, sym, ap, ap₂, ◌∙◌, subst, ⊎_elim, arith, nat_le, nat_lt}
 use Rattle.std.specs.List.{list_all}
 use Rattle.std.proofs.lemmas.Bool.{and_parts, or_cases, not_from_true}
 use Rattle.std.proofs.lemmas.Bool.Decides.{eqb_tells, nat_tests}
@@ -17,7 +17,7 @@ use Rattle.trace_model.specs.Attempts.{attempts, is_open, is_due}
 use Rattle.trace_model.specs.Time.{deadline, is_expired, is_before, may_ask}
 use Rattle.trace_model.specs.Steps.{opens}
 use Rattle.trace_model.specs.Rules.{Allowed}
-use Rattle.debug_adapter.specs.LowerRun.{LowerRun, timer_hit}
+use Rattle.debug_adapter.specs.LowerRun.{timer_hit}
 use Rattle.debug_adapter.proofs.Once.{answer_once}
 use Rattle.adds_laws.proofs.Plain.{attempt_is}
 use Rattle.adds_laws.proofs.Along.{Says}

@@ -7,4 +7,4 @@
 
 mod laws;
 
-pub use laws::{an_answer_is_due_or_not, what_a_step_adds_is_one_list};
+pub use laws::{it_is_determined_whether_an_answer_is_due, what_a_step_adds_is_one_list};
