@@ -1,5 +1,5 @@
 -- The row that a look found.
-use Rattle.std.proofs.Common.{◌≡◌, true, false, Option, Some, None, cond, refl, inl, inr}
+use Rattle.std.proofs.Common.{◌≡◌, true, false, Option, Some, None, refl, inl, inr}
 use Rattle.std.proofs.lemmas.Bool.{cases_Bool}
 use Rattle.attempt_table.specs.declared.rows.Row.{Row}
 use Rattle.attempt_table.specs.Rows.{wanting_in, wanting_row}

@@ -5,6 +5,7 @@ pub mod Claimed
 pub mod Numbers
 pub mod Changes
 pub mod Moves
+pub mod Listed
 pub mod Found
 pub mod Sending
 pub mod Queries

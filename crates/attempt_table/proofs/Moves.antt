@@ -25,7 +25,7 @@ use Rattle.attempt_table.specs.AttemptsAgree.{times, Reads, IsSound, Says, IsApa
 use Rattle.attempt_table.proofs.Bools.{same, differ, and_first, and_second, not_true, or_first, or_second, wanted_by, unwanted_by, some_map, strays as strayed}
 use Rattle.attempt_table.proofs.Numbers.{times_more}
 use Rattle.attempt_table.proofs.Places.{get_set_within, get_set_other, row_other}
-use Rattle.attempt_table.proofs.Shown.{claims_in, claimed_open}
+use Rattle.attempt_table.proofs.Shown.{claimed_open}
 use Rattle.attempt_table.proofs.Changes.{IsUnsent, says_still, says_moved, tags_moved, tags_unmoved, tags_differ, claims_unmoved, claims_put, claims_cut, keeps_moved, reads_moved}
 
 module _ (s : HostSpec) (P : List Entry) (table : List Row) (shown : List TagState) (kept : List (Option Answer)) (waiting : List Claim) (lates : List ℕ) (run : Says s P table shown kept waiting lates) where

@@ -1,8 +1,7 @@
 -- What the table's queries come to by the journal.
-use Rattle.std.proofs.Common.{◌≡◌, ℕ, zero, suc, ◌+◌, ◌<◌, ◌≤◌, ◌==◌, Bool, true, false, not, ◌&&◌, ◌||◌, cond, List, [], ◌∷◌, ◌++◌, Option, Some, None, length, refl, sym, ap, ◌∙◌, subst, arith, inl, inr}
+use Rattle.std.proofs.Common.{◌≡◌, ℕ, zero, suc, ◌+◌, ◌==◌, Bool, true, false, not, ◌&&◌, ◌||◌, cond, List, [], ◌∷◌, ◌++◌, Option, Some, None, length, refl, sym, ◌∙◌, subst, arith, inl, inr}
 use Rattle.std.specs.Prelude.{is_some, option_map, pred, nat_lt, replicate}
 use Rattle.std.specs.List.{list_any}
-use Rattle.std.proofs.Math.ListN.{length-replicate}
 use Rattle.std.proofs.lemmas.Bool.{cases_Bool, eqb-true, lt-ltb, ltb-true}
 use Rattle.mid_base.specs.declared.names.Attempt.{Attempt}
 use Rattle.mid_base.specs.declared.names.Tag.{Tag}
@@ -21,7 +20,7 @@ use Rattle.trace_model.specs.Tags.{tags_from}
 use Rattle.trace_model.specs.Claims.{tag_for, claims_of, claims_among}
 use Rattle.attempt_table.specs.declared.rows.Row.{Row}
 use Rattle.attempt_table.specs.Rows.{row_of, live_in, keeps_in}
-use Rattle.attempt_table.specs.Claims.{Claim, waits_for, is_by}
+use Rattle.attempt_table.specs.Claims.{waits_for, is_by}
 use Rattle.attempt_table.specs.AttemptsAgree.{times, Reads, IsSound, Says}
 use Rattle.attempt_table.proofs.Bools.{same}
 

@@ -1,5 +1,5 @@
 -- What the table says after an attempt was sent.
-use Rattle.std.proofs.Common.{◌≡◌, ◌≢◌, ℕ, ◌+◌, ◌<◌, ◌==◌, true, false, List, [], ◌∷◌, ◌++◌, Option, Some, None, length, refl, sym, ap, ◌∙◌, subst, arith, inl, inr}
+use Rattle.std.proofs.Common.{◌≡◌, ◌≢◌, ℕ, ◌+◌, ◌<◌, ◌==◌, true, List, [], ◌∷◌, ◌++◌, Option, Some, None, length, refl, sym, ap, ◌∙◌, subst, arith, inl, inr}
 use Rattle.std.specs.Prelude.{slice_get, slice_set}
 use Rattle.std.proofs.Math.ListN.{length-append}
 use Rattle.std.proofs.lemmas.Bool.{cases_Bool, cases_eq, eqb-true}
@@ -20,7 +20,7 @@ use Rattle.attempt_table.specs.declared.rows.Row.{Row}
 use Rattle.attempt_table.specs.Rows.{row_of, next_attempt, sent_row, live_in, keeps_in, tag_in, shown_in}
 use Rattle.attempt_table.specs.Claims.{Claim}
 use Rattle.attempt_table.specs.AttemptsAgree.{Reads, IsSound, Says}
-use Rattle.attempt_table.proofs.Bools.{same, differ, and_first}
+use Rattle.attempt_table.proofs.Bools.{same, differ}
 use Rattle.attempt_table.proofs.Numbers.{countdown_more}
 use Rattle.attempt_table.proofs.Places.{row_new, row_last, row_front, tags_set, tags_within}
 use Rattle.attempt_table.proofs.Shown.{claims_in, state_is, claims_are, last_was_sent, shown_held, tag_is, live_is_shown}

@@ -13,14 +13,14 @@ use Rattle.mid_base.specs.declared.entries.Entry.{Entry}
 use Rattle.mid_base.specs.declared.entries.Entry.TheVariants as entry
 use Rattle.mid_base.specs.declared.host_spec.HostSpec.{HostSpec}
 use Rattle.mid_base.specs.Past.{was_sent}
-use Rattle.trace_model.specs.Attempts.{is_open, is_answered, owner, is_settled, is_due}
+use Rattle.trace_model.specs.Attempts.{is_open, owner, is_settled, is_due}
 use Rattle.trace_model.specs.Tags.{sent_with, state_by, tag_state, tags_from}
-use Rattle.trace_model.specs.Claims.{tag_for, claims_of}
+use Rattle.trace_model.specs.Claims.{claims_of}
 use Rattle.attempt_table.specs.declared.rows.Row.{Row}
 use Rattle.attempt_table.specs.Rows.{row_of, open_in, answered_in, due_in, settled_in, owner_in, live_in, claims_by, tag_in, shown_in}
 use Rattle.attempt_table.specs.Claims.{Claim}
 use Rattle.attempt_table.specs.AttemptsAgree.{Reads, Says}
-use Rattle.attempt_table.proofs.Bools.{same, and_first, or_first}
+use Rattle.attempt_table.proofs.Bools.{same, and_first}
 use Rattle.attempt_table.proofs.Places.{tags_get, tags_within}
 
 abbrev pub claims_in : ℕ → Option Row → List Claim

@@ -1,5 +1,5 @@
 -- What holds of a table that says what the journal says.
-use Rattle.std.proofs.Common.{◌≡◌, ◌≢◌, ℕ, true, List, ◌∷◌, Option, None, Some, inl, inr, refl, sym, ap, ◌∙◌, subst}
+use Rattle.std.proofs.Common.{◌≡◌, ◌≢◌, ℕ, true, List, ◌∷◌, Option, None, Some, inl, inr, refl, sym, ◌∙◌, subst}
 use Rattle.std.specs.Prelude.{slice_get, unwrap_or}
 use Rattle.std.proofs.lemmas.Bool.{cases_Bool}
 use Rattle.mid_base.specs.declared.answers.Answer.{Answer}
@@ -16,11 +16,11 @@ use Rattle.attempt_table.proofs.Shown.{live_is_shown, held_has_attempt, armed_op
 use Rattle.attempt_table.proofs.Moves.{says_apart, says_again}
 
 pub tells_apart : (s : HostSpec) (P : List Entry) (t : Attempts) (e : Entry) → IsApart e → AttemptsAgree s P t → AttemptsAgree s (e ∷ P) t
-tells_apart s P t e apart tells = (says_apart s P t.rows.items t.tags.items t.kept.items t.claims.items t.lates.items tells.0 e apart, tells.1)
+tells_apart s P t e apart tells = (says_apart s P t.rows.items t.tags.items t.kept.items t.claims.items t.lates.items tells.0 e apart, tells.1, tells.2, tells.3)
 
 pub tells_again : (s : HostSpec) (P : List Entry) (t : Attempts) (n : ℕ) (e : Entry) → Settles n e → settled_in (row_of n t.rows.items) ≡ true
     → AttemptsAgree s P t → AttemptsAgree s (e ∷ P) t
-tells_again s P t n e of settled tells = (says_again s P t.rows.items t.tags.items t.kept.items t.claims.items t.lates.items tells.0 n e of settled, tells.1)
+tells_again s P t n e of settled tells = (says_again s P t.rows.items t.tags.items t.kept.items t.claims.items t.lates.items tells.0 n e of settled, tells.1, tells.2, tells.3)
 
 pub armed_is_live : (s : HostSpec) (P : List Entry) (t : Attempts) → AttemptsAgree s P t → (u : ℕ) (x : TagState) → slice_get t.tags.items u ≡ Some x → x ≢ Free
     → (n : ℕ) × (live_in (row_of n t.rows.items) ≡ true) × ((tag_in (row_of n t.rows.items)).0 ≡ u)

@@ -1,5 +1,5 @@
 -- The table of attempts says what the entries P, the newest first, say of attempts.
-use Rattle.std.specs.Prelude.{◌≡◌, ◌≢◌, ℕ, zero, suc, ◌+◌, ◌<◌, ◌≤◌, ◌==◌, true, false, ◌&&◌, if◌then◌else◌, List, [], ◌∷◌, Option, Some, None, is_some, length, slice_get, vec_len, vec_capacity, pred}
+use Rattle.std.specs.Prelude.{◌≡◌, ◌≢◌, ℕ, zero, suc, ◌+◌, ◌<◌, ◌≤◌, ◌==◌, true, ◌&&◌, if◌then◌else◌, List, [], ◌∷◌, Option, Some, None, is_some, length, slice_get, vec_len, vec_capacity, pred}
 use Rattle.mid_base.specs.declared.answers.Answer.{Answer}
 use Rattle.mid_base.specs.declared.answers.By.TheVariants.{Answer as ByAnswer}
 use Rattle.mid_base.specs.declared.answers.TagState.{TagState}
@@ -12,7 +12,7 @@ use Rattle.trace_model.specs.Tags.{sent_with, tag_states}
 use Rattle.trace_model.specs.Claims.{tag_for, waiting_claims}
 use Rattle.attempt_table.specs.declared.rows.Row.{Row}
 use Rattle.attempt_table.specs.declared.attempts.Attempts.{Attempts}
-use Rattle.attempt_table.specs.Rows.{row_of, open_in, answered_in, due_in, settled_in, owner_in, command_in, tag_in, live_in, keeps_in}
+use Rattle.attempt_table.specs.Rows.{row_of, open_in, answered_in, due_in, settled_in, owner_in, command_in, tag_in, owned_in, live_in, keeps_in}
 use Rattle.attempt_table.specs.Claims.{Claim}
 
 -- the numbers from n down to 1
@@ -55,14 +55,25 @@ pub record Says (s : HostSpec) (P : List Entry) (table : List Row) (shown : List
 abbrev pub LatesFit : Attempts → Type 0
 LatesFit t = vec_len t.lates + vec_len t.claims ≤ vec_capacity t.lates
 
-abbrev pub AttemptsAgree : HostSpec → List Entry → Attempts → Type 0
-AttemptsAgree s P t = Says s P t.rows.items t.tags.items t.kept.items t.claims.items t.lates.items × LatesFit t
+-- each attempt that has an owner and isn't settled is listed, once, and no other
+abbrev pub ListsOwned : List Row → List ℕ → Type 0
+ListsOwned table owned = (n : ℕ) → times n owned ≡ (if owned_in (row_of n table) then 1 else 0)
 
--- room for one attempt, one claim and one late answer more
+-- an attempt that waits for its owner finds room among those that have one
+abbrev pub OwnedFit : Attempts → Type 0
+OwnedFit t = vec_len t.owned + vec_len t.claims ≤ vec_capacity t.owned
+
+abbrev pub AttemptsAgree : HostSpec → List Entry → Attempts → Type 0
+AttemptsAgree s P t =
+    Says s P t.rows.items t.tags.items t.kept.items t.claims.items t.lates.items × LatesFit t
+    × ListsOwned t.rows.items t.owned.items × OwnedFit t
+
+-- room for one attempt, one claim, one late answer and one owned attempt more
 pub record HasRoom (t : Attempts) : Type 0 where
   pub rows : vec_len t.rows < vec_capacity t.rows
   pub claims : vec_len t.claims < vec_capacity t.claims
   pub lates : vec_len t.lates + vec_len t.claims < vec_capacity t.lates
+  pub owned : vec_len t.owned + vec_len t.claims < vec_capacity t.owned
 
 -- the table is that of some journal
 pub record IsTied (t : Attempts) : Type 0 where
@@ -77,6 +88,7 @@ pub record IsSame (old new : Attempts) : Type 0 where
   pub kept : new.kept.items ≡ old.kept.items
   pub claims : new.claims.items ≡ old.claims.items
   pub lates : new.lates.items ≡ old.lates.items
+  pub owned : new.owned.items ≡ old.owned.items
 
 -- the entry settles attempt n
 abbrev pub Settles : ℕ → Entry → Type 0

@@ -4,7 +4,7 @@ ghost use Rattle.mid_base.specs.declared.host_spec.HostSpec.{HostSpec as SpecSee
 ghost use Rattle.mid_base.specs.declared.entries.Entry.{Entry as EntrySeen};
 ghost use Rattle.trace_model.specs.Attempts.{attempts, answer as answer_seen, answered, late};
 ghost use Rattle.trace_model.specs.Steps.{same_owner};
-ghost use Rattle.attempt_table.specs.Claims.{waits_for, is_by};
+ghost use Rattle.attempt_table.specs.Claims.{waits_for, is_by, IsNextOwned};
 ghost use Rattle.trace_model.specs.Tags.{tag_states};
 ghost use Rattle.trace_model.specs.Claims.{waiting_claims, IsNextLate};
 ghost use Rattle.attempt_table.specs.Rows.{row_of, live_in, keeps_in, kept_at, answer_in};
@@ -13,8 +13,8 @@ use crate::Row;
 use mid_base::{Answer, Attempt, By, NoMemory, Tag, TagState};
 use std::alloc::Global;
 
-/// The attempts of a host: a row for each, the state of each tag, the answers that may still be asked for, the claims, and the
-/// answers that are to be ignored.
+/// The attempts of a host: a row for each, the state of each tag, the answers that may still be asked for, the claims, the
+/// answers that are to be ignored, and the attempts that have an owner and aren't settled.
 #[derive(Drop)]
 pub struct Attempts {
     // Attempt n is at n - 1.
@@ -24,6 +24,7 @@ pub struct Attempts {
     pub(crate) kept: Vec<Option<Answer>>,
     pub(crate) claims: Vec<(Tag, Attempt, By)>,
     pub(crate) lates: Vec<u64>,
+    pub(crate) owned: Vec<u64>,
 }
 
 // The tag comes to a state. Where there is no such tag, nothing changes.
@@ -98,10 +99,12 @@ impl Attempts {
             kept,
             claims: Vec::new(alloc),
             lates: Vec::new(alloc),
+            owned: Vec::new(alloc),
         })
     }
 
-    /// Takes room for one attempt, one claim and one late answer more. Nothing else changes, also where it fails.
+    /// Takes room for one attempt, one claim, one late answer and one owned attempt more. Nothing else changes, also where it
+    /// fails.
     pub fn reserve(&mut self) -> Result<(), NoMemory>
         ensures room { OnOk result (HasRoom self.new) }
         ensures same { IsSame self.old self.new }
@@ -110,7 +113,8 @@ impl Attempts {
         self.rows.reserve(1).map_err(|_| NoMemory)?;
         self.claims.reserve(1).map_err(|_| NoMemory)?;
         let more = self.claims.len().saturating_add(1);
-        self.lates.reserve(more).map_err(|_| NoMemory)
+        self.lates.reserve(more).map_err(|_| NoMemory)?;
+        self.owned.reserve(more).map_err(|_| NoMemory)
     }
 
     /// The row of an attempt, None where there is none.
@@ -175,6 +179,16 @@ impl Attempts {
         ensures { (s : SpecSeen) (P : List EntrySeen) → AttemptsAgree s P self.now → IsNextLate P result }
     {
         match least(&self.lates) {
+            Some(n) => Some(Attempt(n)),
+            None => None,
+        }
+    }
+
+    /// The least attempt that has an owner and isn't settled; None where there is none.
+    pub fn next_owned(&self) -> Option<Attempt>
+        ensures { (s : SpecSeen) (P : List EntrySeen) → AttemptsAgree s P self.now → IsNextOwned P result }
+    {
+        match least(&self.owned) {
             Some(n) => Some(Attempt(n)),
             None => None,
         }

@@ -108,6 +108,7 @@ impl Attempts {
             write(&mut self.rows, n, given_to(row, by));
             unclaim(&mut self.claims, n);
             show(&mut self.tags, row.tag, TagState::Owned(n, by));
+            self.owned.push_reserved(n.0);
             if is_unwanted(row, by) {
                 self.lates.push_reserved(n.0);
             }
@@ -132,6 +133,7 @@ impl Attempts {
                 },
             );
             show(&mut self.tags, row.tag, TagState::Free);
+            drop_one(&mut self.owned, n.0);
         }
     }
 

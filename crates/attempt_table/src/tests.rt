@@ -328,6 +328,37 @@ fn an_expiry_that_owns_without_an_answer_leaves_none_late(rt: HostRuntime) -> Re
     Ok(())
 }
 
+// Attempts 3 and 2 come to their owners, in this order.
+const OWNED: [Call; 4] = [
+    Call::Answer(3, 30),
+    Call::Own(3, By::Answer),
+    Call::Expire(2),
+    Call::Own(2, By::Expiry),
+];
+
+#[test]
+fn an_attempt_that_waits_for_its_owner_has_none(rt: HostRuntime) -> Result<(), Fail> {
+    let attempts = after(rt.alloc(), &BOTH)?;
+    assert_eq!(rt; attempts.next_owned(), None);
+    Ok(())
+}
+
+#[test]
+fn the_least_owned_attempt_comes_first(rt: HostRuntime) -> Result<(), Fail> {
+    let attempts = after(rt.alloc(), &OWNED)?;
+    assert_eq!(rt; attempts.next_owned(), Some(Attempt(2)));
+    Ok(())
+}
+
+#[test]
+fn a_settled_attempt_makes_room_for_the_next_owned_one(rt: HostRuntime) -> Result<(), Fail> {
+    let [answer, own, expire, own_by_expiry] = OWNED;
+    let calls = [answer, own, expire, own_by_expiry, Call::Settle(2)];
+    let attempts = after(rt.alloc(), &calls)?;
+    assert_eq!(rt; attempts.next_owned(), Some(Attempt(3)));
+    Ok(())
+}
+
 // A host keeps a row for each attempt that it ever sends.
 #[test]
 fn a_row_takes_64_bytes_at_most(rt: HostRuntime) {

@@ -6,6 +6,7 @@ ghost use Rattle.mid_base.specs.Address.{has_dev};
 ghost use Rattle.mid_base.specs.Limits.{KeepsLimits};
 ghost use Rattle.attempt_table.specs.Rows.{row_of};
 ghost use Rattle.attempt_table.specs.AttemptsAgree.{HasRoom};
+ghost use Rattle.attempt_table.specs.Claims.{IsNextOwned};
 ghost use Rattle.device_table.specs.Rows.{dev_at};
 ghost use Rattle.trace_model.specs.Attempts.{late};
 ghost use Rattle.trace_model.specs.Devices.{in_recovery};
@@ -88,6 +89,13 @@ impl Running {
         ensures { (s : SpecSeen) (P : List EntrySeen) → HostAgrees s P self.now → IsNextLate P result }
     {
         self.attempts.next_late()
+    }
+
+    /// The least attempt that has an owner and isn't settled; None where there is none.
+    pub fn next_owned(&self) -> Option<Attempt>
+        ensures { (s : SpecSeen) (P : List EntrySeen) → HostAgrees s P self.now → IsNextOwned P result }
+    {
+        self.attempts.next_owned()
     }
 
     /// Whether an answer of this attempt is to be ignored.

@@ -106,6 +106,15 @@ fn nothing_is_under_way_on_a_new_host(rt: HostRuntime) {
 }
 
 #[test]
+fn no_attempt_has_an_owner_on_a_new_host(rt: HostRuntime) {
+    let Ok(running) = running(rt.alloc()) else {
+        assert!(rt; false, "memory for a host");
+        return;
+    };
+    assert_eq!(rt; running.next_owned(), None);
+}
+
+#[test]
 fn lanes_begin_with_their_first_commands_and_devices_have_places(rt: HostRuntime) {
     let Ok(running) = running(rt.alloc()) else {
         assert!(rt; false, "memory for a host");

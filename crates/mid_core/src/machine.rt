@@ -1,6 +1,7 @@
 ghost use Rattle.std.specs.Prelude.{◌≡◌, ◌↔◌, ◌≤◌, ◌<◌, ◌+◌, ◌^◌, true, [], reverse, length, IfOk, IsOk, OnOk, IsTrue};
 ghost use Rattle.mid_base.specs.Address.{has_dev};
 ghost use Rattle.mid_base.specs.Limits.{KeepsLimits};
+ghost use Rattle.attempt_table.specs.Claims.{IsNextOwned};
 ghost use Rattle.host_state.specs.HostAgrees.{HaveTags};
 ghost use Rattle.trace_model.specs.Attempts.{sends};
 ghost use Rattle.trace_model.specs.Devices.{state};
@@ -131,6 +132,13 @@ impl<A: HostTemplate> Core<A> {
         ensures { IsNextLate (reverse self.now.journal) result }
     {
         self.running.next_late()
+    }
+
+    /// The least attempt that has an owner and isn't settled; None where there is none.
+    pub fn next_owned(&self) -> Option<Attempt>
+        ensures { IsNextOwned (reverse self.now.journal) result }
+    {
+        self.running.next_owned()
     }
 
     /// The state of one of the host's devices.

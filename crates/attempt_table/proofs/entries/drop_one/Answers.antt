@@ -1,6 +1,5 @@
-use Rattle.std.proofs.Common.{rules, tests, ◌≡◌, ◌∙◌, ◌==◌, Bool, true, false, cond, List, ℕ, Option, Some, None, length, sym, ap, inl, inr}
-use Rattle.std.specs.Prelude.{nat_lt, remove}
-use Rattle.std.specs.List.{position, position_or_len}
+use Rattle.std.proofs.Common.{rules, tests, ◌≡◌, ◌∙◌, ◌==◌, Some, None, sym, ap}
+use Rattle.std.specs.List.{position}
 use Rattle.std.proofs.lemmas.Iterator.{YieldsList-from_slice}
 use Rattle.std.proofs.lemmas.Iterator.Search.{position_from_yields_List}
 use Rattle.attempt_table.proofs.Numbers.{times_less_where, times_where_none}

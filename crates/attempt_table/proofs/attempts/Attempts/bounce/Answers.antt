@@ -1,5 +1,6 @@
-use Rattle.std.proofs.Common.{◌≡◌, ap, sym, ◌∙◌}
-use Rattle.attempt_table.specs.Rows.{row_of, turned_away, tag_in, Becomes}
+use Rattle.std.proofs.Common.{ap, sym, ◌∙◌}
+use Rattle.attempt_table.specs.Rows.{turned_away, tag_in, just_sent_in, Becomes}
+use Rattle.attempt_table.proofs.Listed.{fresh_still, listed_still}
 use Rattle.attempt_table.proofs.Moves.{says_bounced}
 use Rattle.attempt_table.proofs.attempts.Attempts.bounce.Goals as goal
 
@@ -12,4 +13,6 @@ returns-in-Some-clause-tells c = λ s P k why tells.
       rw (c.show.ensures, ← tag)
           (says_bounced s P t.rows.items t.tags.items t.kept.items t.claims.items t.lates.items tells.0 k c.args.n why c.write.new.rows.items h c.requires),
       tells.1,
+      listed_still t.rows.items t.owned.items tells.2 c.args.n.0 turned_away c.write.new.rows.items h (fresh_still c.in-Some.row (sym (ap just_sent_in found) ∙ c.requires)),
+      tells.3,
     )

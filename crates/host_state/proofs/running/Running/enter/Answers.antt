@@ -44,7 +44,7 @@ returns-in-Sensed-clause-runs c = λ s P takes r.
     let dead = (failed_row s P old r k.0 n.0 (rw c.in-Sensed.is at takes)).0 in
     rw c.in-Sensed.is (record {
       limits = r.limits;
-      attempts = (says_sensed s P old.attempts.rows.items old.attempts.tags.items old.attempts.kept.items old.attempts.claims.items old.attempts.lates.items r.attempts.0 k n c.in-Sensed.sense dead, r.attempts.1);
+      attempts = (says_sensed s P old.attempts.rows.items old.attempts.tags.items old.attempts.kept.items old.attempts.claims.items old.attempts.lates.items r.attempts.0 k n c.in-Sensed.sense dead, r.attempts.1, r.attempts.2, r.attempts.3);
       commands = follows_apart s P old.commands e tt r.commands;
       devices = keeps_apart s P old.devices e tt r.devices;
       timed = timed_apart s P old.deadlines old.attempts.tags.items r.timed e tt;

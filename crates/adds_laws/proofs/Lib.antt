@@ -1,0 +1,9 @@
+pub mod Due
+pub mod Along
+pub mod Plain
+pub mod Sending
+pub mod Waiting
+pub mod Settling
+pub mod Flushing
+pub mod Acting
+pub mod All
