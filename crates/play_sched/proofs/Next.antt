@@ -14,8 +14,7 @@ use Rattle.mid_base.specs.declared.host_spec.HostSpec.{HostSpec}
 use Rattle.trace_model.specs.Attempts.{is_open, is_answered, is_due, owner, is_settled, late}
 use Rattle.trace_model.specs.Claims.{IsNextLate}
 use Rattle.trace_model.specs.Steps.{barred}
-use Rattle.attempt_table.specs.Claims.{waits_for}
-use Rattle.play_sched.specs.Tmp.{IsNextOwned, is_unsettled}
+use Rattle.attempt_table.specs.Claims.{IsNextOwned, is_unsettled, waits_for}
 use Rattle.drain_rounds.specs.Making.{HostRun}
 use Rattle.drain_rounds.specs.Rounds.{alone, for_each, last_named, named}
 use Rattle.play_sched.specs.declared.phases.Phase.TheVariants as phase

@@ -1,4 +1,3 @@
-pub mod Tmp
 pub mod Rest
 pub mod Runs
 pub mod Phases

@@ -31,7 +31,7 @@ impl Host {
     ghost use Rattle.std.specs.Prelude.{◌≡◌, ◌<◌, None, Ok, reverse, length, IfOk, true};
     ghost use Rattle.mid_base.specs.Limits.{KeepsLimits};
     ghost use Rattle.trace_model.specs.Claims.{IsNextLate};
-    ghost use Rattle.play_sched.specs.Tmp.{IsNextOwned};
+    ghost use Rattle.attempt_table.specs.Claims.{IsNextOwned};
     ghost use Rattle.drain_rounds.specs.Making.{Comes};
     ghost use Rattle.drain_rounds.specs.Rounds.{first_stopped, is_drained};
     ghost use Rattle.play_sched.specs.Runs.{IsRun, unplayed};
@@ -103,7 +103,7 @@ impl Host {
     pub fn next_owned(&self) -> Option<Attempt>
         ensures { IsNextOwned self.now.entries result }
     {
-        None
+        self.core.next_owned()
     }
 
     /// The least attempt with an answer that is to be ignored.

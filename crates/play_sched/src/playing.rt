@@ -1,4 +1,4 @@
-ghost use Rattle.std.specs.Prelude.{◌≡◌, ◌++◌, ◌||◌, true, map, All, count_by, IfOk, OnOk};
+ghost use Rattle.std.specs.Prelude.{◌≡◌, ◌++◌, ◌&&◌, not, map, All, count_by, IfOk, OnOk};
 ghost use Rattle.std.specs.List.{position};
 ghost use Rattle.mid_base.specs.Limits.{KeepsLimits};
 ghost use Rattle.script_text.specs.Playable.{IsPlayable, IsStepOf, IsStepOnSome};
@@ -34,13 +34,13 @@ pub fn play_script(alloc: Global, script: Script) -> Result<Played, NoMemory>
     let most = most_rounds(&script);
     let drains = script.drain;
     let Script { hosts, steps, .. } = script;
-    let (hosts, skips) = play_lines(alloc, hosts, steps.as_slice())?;
-    let hosts = run_on(alloc, hosts, drains, most)?;
-    let short = drains && !are_drained(&hosts);
+    let lines = play_lines(alloc, hosts, steps.as_slice())?;
+    let hosts = run_on(alloc, lines.0, drains, most)?;
+    let short = is_short(drains, &hosts);
     know_runs(&hosts);
     Ok(Played {
         hosts,
-        skips,
+        skips: lines.1,
         short,
     })
 }
@@ -176,6 +176,7 @@ fn run_on(
     }
 }
 
+#[tactic(auto, using(crate::proofs::Runs::drained_more, crate::proofs::Runs::drained_specs))]
 fn drain_each(alloc: Global, hosts: Vec<Host>, most: u128) -> Result<Vec<Host>, NoMemory>
     ensures rounds { IfOk result (λ new. DrainEach most hosts.items new.items) }
     ensures specs { IfOk result (λ new. specs_of new.items ≡ specs_of hosts.items) }
@@ -186,6 +187,13 @@ fn drain_each(alloc: Global, hosts: Vec<Host>, most: u128) -> Result<Vec<Host>, 
         drained.push(host).map_err(|_| NoMemory)?;
     }
     Ok(drained)
+}
+
+// Whether draining is asked for, and a host isn't drained.
+fn is_short(drains: bool, hosts: &[Host]) -> bool
+    ensures { result ≡ (drains && not (all_drained hosts.now)) }
+{
+    drains && !are_drained(hosts)
 }
 
 fn are_drained(hosts: &[Host]) -> bool

@@ -19,7 +19,7 @@ fn kind_words(kind: &str) -> &'static str {
         "6" => "a name is given again, or a flag, or the budget",
         "7" => "no earlier line has this name",
         "8" => "a number is outside its range, or there are too many bytes or lines",
-        "9" => "the script ends without the line `end stop`",
+        "9" => "the script ends without the line `end stop` or `end drain`",
         "10" => "a line comes behind the last one",
         _ => "it is bad",
     }
@@ -35,9 +35,10 @@ pub fn bad_line(printed: &[u8]) -> Option<(&str, &'static str)> {
 /// What failed in a run that ended with this status; nothing where it played the script, or the script is bad.
 pub fn failure(status: Status) -> Option<&'static str> {
     match status.0 {
-        2 => Some("it takes no words; a script comes on standard input, as in scsi_play < SCRIPT"),
+        2 => Some("it takes no words but --; a script comes on standard input, as in scsi_play < SCRIPT"),
         4 => Some("the script couldn't be read"),
         5 => Some("the output couldn't be written"),
+        6 => Some("the rounds of the script are used up, and a host isn't drained"),
         7 => Some("there isn't enough memory"),
         _ => None,
     }

@@ -7,5 +7,5 @@ abbrev pub invariant-loop : goal.invariant-loop
 invariant-loop l = record {
   goes : GoesOn l.fn.host l.host;
   rest : IsAtRest l.rest l.host;
-  follows : Follows l.index l.fn.host l.host;
+  follows : Follows l.counter l.fn.host l.host;
 }
