@@ -16,7 +16,9 @@ pub fn host_bound(spec: &HostSpec, states: u64) -> u128
     requires { KeepsLimits spec.now }
     ensures { result ≡ host_bound spec.now states }
 {
-    let ticks = u128::from(longest_timeout(spec.cmds.as_slice())) + u128::from(longest_latency(spec.plan.as_slice())) + 4;
+    let ticks = u128::from(longest_timeout(spec.cmds.as_slice()))
+        + u128::from(longest_latency(spec.plan.as_slice()))
+        + 4;
     let work = 1 + tries(spec.cmds.as_slice()) + uses(spec.plan.as_slice()) + u128::from(states);
     ticks * work
 }

@@ -106,10 +106,13 @@ at_all s P by each None h = λ n. elim (cases_Bool (waits_for P by n)) [
   | inl passes ↦ let within = open_within s n P each (waits_open P by n passes) in absurd (cc (sym (h n within.0 within.1) ∙ passes))
   | inr fails ↦ fails
 ]
-at_all s P by each (Some c) h = (h.0, λ n lt. elim (cases_Bool (waits_for P by n)) [
-  | inl passes ↦ let within = open_within s n P each (waits_open P by n passes) in absurd (cc (sym (h.2 n within.0 lt) ∙ passes))
-  | inr fails ↦ fails
-])
+at_all s P by each (Some c) h = (
+  h.0,
+  λ n lt. elim (cases_Bool (waits_for P by n)) [
+    | inl passes ↦ let within = open_within s n P each (waits_open P by n passes) in absurd (cc (sym (h.2 n within.0 lt) ∙ passes))
+    | inr fails ↦ fails
+  ],
+)
 
 pub first_claim : (s : HostSpec) (P : List Entry) (by : By) → ByGroups s P → IsFirstClaim by P (option_map (λ c. c.1) (find (is_by by) (waiting_claims P)))
 first_claim s P by legal =

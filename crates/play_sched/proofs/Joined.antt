@@ -34,11 +34,10 @@ pub round_of : (a b c d e : HostRun) → GoesOn a b → GoesOn a c → GoesOn a 
     → Round a.spec a.before a.entries e.entries
 round_of a b c d e g h k first middle last time =
     let second = to_first (λ s x. Passes middle_phases s x b.entries c.entries) b.spec a.spec b.before a.before g.spec g.before middle in
-    let third = to_first (λ s x. Passes last_phases s x c.entries d.entries) c.spec a.spec c.before a.before h.spec h.before last in
-    (
+    let third = to_first (λ s x. Passes last_phases s x c.entries d.entries) c.spec a.spec c.before a.before h.spec h.before last in (
       d.entries,
       passes_join first_phases (middle_phases ++ last_phases) a.spec a.before a.entries b.entries d.entries first
-      (passes_join middle_phases last_phases a.spec a.before b.entries c.entries d.entries second third),
+          (passes_join middle_phases last_phases a.spec a.before b.entries c.entries d.entries second third),
       to_first (λ s x. PassesTime (is_drained s d.entries) s x d.entries e.entries) d.spec a.spec d.before a.before k.spec k.before time,
     )
 

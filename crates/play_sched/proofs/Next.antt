@@ -44,9 +44,12 @@ module _ (make : Attempt → Step) (test : ℕ → Bool) (run : HostRun)
       none_below (λ t. is_none (barred run.spec due run.entries t)) (λ n. make (record { 0 = n })) (suc (last_named run.entries)) (λ n lt. free due n ∙ fails n)
 
   pub some_next : (m : ℕ) → stops_none (make (record { 0 = m })) ≡ true → test m ≡ true → ((n : ℕ) → n < m → test n ≡ false) → IsNext (for_each make) run (Some (make (record { 0 = m })))
-  some_next m stops passes fails = (stops, λ due.
-      least_below (λ t. is_none (barred run.spec due run.entries t)) (λ n. make (record { 0 = n })) (suc (last_named run.entries)) m (omega (arith, known m passes)) (free due m ∙ passes) (λ n lt. free due n ∙ fails n lt)
-      ∙ sym (free_is (make (record { 0 = m })) (barred run.spec due run.entries (make (record { 0 = m }))) (free due m ∙ passes)))
+  some_next m stops passes fails = (
+    stops,
+    λ due.
+        least_below (λ t. is_none (barred run.spec due run.entries t)) (λ n. make (record { 0 = n })) (suc (last_named run.entries)) m (omega (arith, known m passes)) (free due m ∙ passes) (λ n lt. free due n ∙ fails n lt)
+        ∙ sym (free_is (make (record { 0 = m })) (barred run.spec due run.entries (make (record { 0 = m }))) (free due m ∙ passes)),
+  )
 
 both : (x y : Bool) (v w : Why) → is_none (if not x then Some v else (if not y then Some w else None)) ≡ x && y
 both true true v w = refl

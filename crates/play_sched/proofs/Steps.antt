@@ -53,22 +53,27 @@ pub came : (old new : CoreView DebugAdapter) (run : HostRun) (t : Step) (did : D
 came old new run t did view stands after answer =
     let kept = kept_on old new t did answer in
     let lower : LowerRun old.spec old.before (reverse new.journal) =
-        subst (λ (s : HostSpec). LowerRun s old.before (reverse new.journal)) kept.0
-        (subst (λ (b : Before). LowerRun new.spec b (reverse new.journal)) kept.1 after.5) in
+    subst (λ (s : HostSpec). LowerRun s old.before (reverse new.journal)) kept.0
+    (subst (λ (b : Before). LowerRun new.spec b (reverse new.journal)) kept.1 after.5) in
     subst (λ (r : HostRun). Comes r.spec r.before r.entries t (why_of did) (reverse new.journal)) view (by did answer lower)
   where
     by : (x : Did) → Answers AdapterStands (λ x now. any_due x.held now) old new t (Ok x) → LowerRun old.spec old.before (reverse new.journal)
         → Comes old.spec old.before (reverse old.journal) t (why_of x) (reverse new.journal)
-    by Done a lower =
-        (any_due old.lower.held (ticks (reverse old.journal)), due_is old.lower old.spec old.before (reverse old.journal) stands, record {
-          group = a.group;
-          adds = a.adds;
-          after = behind old.journal a.group new.journal a.journal;
-          lower = lower;
-        })
-    by (Skipped why) a lower =
-        (any_due old.lower.held (ticks (reverse old.journal)), due_is old.lower old.spec old.before (reverse old.journal) stands,
-        (ap (λ (v : CoreView DebugAdapter). reverse v.journal) a.0, a.1))
+    by Done a lower = (
+      any_due old.lower.held (ticks (reverse old.journal)),
+      due_is old.lower old.spec old.before (reverse old.journal) stands,
+      record {
+        group = a.group;
+        adds = a.adds;
+        after = behind old.journal a.group new.journal a.journal;
+        lower = lower;
+      },
+    )
+    by (Skipped why) a lower = (
+      any_due old.lower.held (ticks (reverse old.journal)),
+      due_is old.lower old.spec old.before (reverse old.journal) stands,
+      (ap (λ (v : CoreView DebugAdapter). reverse v.journal) a.0, a.1),
+    )
 
 -- what is over stays so
 pub goes : (old new : CoreView DebugAdapter) (t : Step) (did : Did) → stops_none t ≡ true
@@ -95,5 +100,11 @@ some_added s P t (e ∷ g) opened = omega arith
 pub longer : (old new : CoreView DebugAdapter) (t : Step) → Answers AdapterStands (λ x now. any_due x.held now) old new t (Ok Done)
     → length (reverse old.journal) < length (reverse new.journal)
 longer old new t answer =
-    omega (arith, length-reverse old.journal, length-reverse new.journal, ap length answer.journal, length-append old.journal answer.group,
-    some_added old.spec (reverse old.journal) t answer.group answer.adds.opened)
+    omega (
+      arith,
+      length-reverse old.journal,
+      length-reverse new.journal,
+      ap length answer.journal,
+      length-append old.journal answer.group,
+      some_added old.spec (reverse old.journal) t answer.group answer.adds.opened,
+    )

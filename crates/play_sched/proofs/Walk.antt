@@ -22,7 +22,7 @@ walk_on f s b P R Q t names comes rest = record {
 
 -- it names nothing
 pub walk_ends : (f : Phase) (s : HostSpec) (b : Before) (P : List Entry) → NamesNone f s b P → Exhausts f s b P P
-walk_ends f s b P none = record { steps = []; made = refl; done = none; }
+walk_ends f s b P none = record { steps = []; made = refl; done = none }
 
 due_same : (s : HostSpec) (b : Before) (P : List Entry) (x y : Bool) → IsDueAfter s b P x → IsDueAfter s b P y → x ≡ y
 due_same s b P true true h k = refl
@@ -46,7 +46,7 @@ goes_more a b c g h = record {
 }
 
 pub goes_none : (a : HostRun) → GoesOn a a
-goes_none a = record { spec = refl; before = refl; handed = λ n h. h; awake = λ h. h; }
+goes_none a = record { spec = refl; before = refl; handed = λ n h. h; awake = λ h. h }
 
 moved : (f : Phase) (s t : HostSpec) (b d : Before) (P Q : List Entry) → s ≡ t → b ≡ d → Exhausts f s b P Q → Exhausts f t d P Q
 moved f s t b d P Q e g h =

@@ -160,12 +160,7 @@ fn note(skips: &mut Vec<(u64, Why)>, line: u64, why: Option<Why>) -> Result<(), 
 }
 
 // Runs the hosts on for at most so many rounds, where that is asked for.
-fn run_on(
-    alloc: Global,
-    hosts: Vec<Host>,
-    drains: bool,
-    most: u128,
-) -> Result<Vec<Host>, NoMemory>
+fn run_on(alloc: Global, hosts: Vec<Host>, drains: bool, most: u128) -> Result<Vec<Host>, NoMemory>
     ensures rounds { IfOk result (λ new. RunOn drains most hosts.items new.items) }
     ensures specs { IfOk result (λ new. specs_of new.items ≡ specs_of hosts.items) }
 {

@@ -4,9 +4,9 @@
 
 #[cfg(test)]
 mod barred_rows;
-mod reading;
 #[cfg(test)]
 mod drain_rows;
+mod reading;
 #[cfg(test)]
 mod recovery_rows;
 #[cfg(test)]

@@ -35,7 +35,9 @@ pub fn bad_line(printed: &[u8]) -> Option<(&str, &'static str)> {
 /// What failed in a run that ended with this status; nothing where it played the script, or the script is bad.
 pub fn failure(status: Status) -> Option<&'static str> {
     match status.0 {
-        2 => Some("it takes no words but --; a script comes on standard input, as in scsi_play < SCRIPT"),
+        2 => Some(
+            "it takes no words but --; a script comes on standard input, as in scsi_play < SCRIPT",
+        ),
         4 => Some("the script couldn't be read"),
         5 => Some("the output couldn't be written"),
         6 => Some("the rounds of the script are used up, and a host isn't drained"),
