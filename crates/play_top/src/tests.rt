@@ -64,11 +64,8 @@ fn scripts_with_recovery_are_played(rt: HostRuntime) -> Result<(), Fail> {
 fn scripts_are_drained(rt: HostRuntime) -> Result<(), Fail> {
     for (script, text) in DRAINED {
         let (status, written) = ends(rt.alloc(), script, 0, 0)?;
-        assert_eq!(rt;
-            (status, written.as_slice()),
-            (Status(0), text.as_bytes()),
-            "{script}"
-        );
+        assert_eq!(rt; status, Status(0), "the status of {script}");
+        assert_eq!(rt; written.as_slice(), text.as_bytes(), "the text of {script}");
     }
     Ok(())
 }
@@ -77,11 +74,8 @@ fn scripts_are_drained(rt: HostRuntime) -> Result<(), Fail> {
 fn rounds_are_used_up(rt: HostRuntime) -> Result<(), Fail> {
     for (script, text) in SHORT {
         let (status, written) = ends(rt.alloc(), script, 0, 0)?;
-        assert_eq!(rt;
-            (status, written.as_slice()),
-            (Status(6), text.as_bytes()),
-            "{script}"
-        );
+        assert_eq!(rt; status, Status(6), "the status of {script}");
+        assert_eq!(rt; written.as_slice(), text.as_bytes(), "the text of {script}");
     }
     Ok(())
 }
