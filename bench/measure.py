@@ -2,8 +2,8 @@
 
 usage: measure.py LAUNCHER PROGRAM [OTHER]
 
-The runs of all scripts take turns, three rounds of them, and each figure is the best of the three. The status is 1 where the
-time of a command of the longer script passes the limit.
+The runs of all scripts take turns, three rounds of them, and each figure is the best of the three. The status is 1 where a
+command of a longer script takes more than so many times as long as one of the shorter script of its kind.
 """
 import subprocess
 import sys
@@ -12,9 +12,13 @@ import tempfile
 import scripts
 
 ROUNDS = 3
-MOST_GROWTH = 1.3
-# A script, and one of the same kind that is ten times as long.
-GROWING = [("2,000 commands", "20,000 commands"), ("1,984 timed out", "20,000 timed out")]
+# A script, a longer one of the same kind, and how many times as long a command of that may take.
+GROWING = [
+    ("2,000 commands", "20,000 commands", 1.3),
+    ("1,984 timed out", "20,000 timed out", 1.3),
+    ("2,048 drained", "20,480 drained", 1.1),
+    ("2,048 drained", "65,536 drained", 1.1),
+]
 
 
 def play(launcher, program, path, wanted):
@@ -56,11 +60,11 @@ def main():
     for name in each:
         if name not in ("2,000 commands", "20,000 commands"):
             print(f"{name} to 20,000 commands: {each[name] / usual:.2f} times as long a command")
-    for short, long in GROWING:
+    for short, long, most in GROWING:
         growth = each[long] / each[short]
         print(f"{long} to {short}: {growth:.2f} times as long a command")
-        if growth > MOST_GROWTH:
-            sys.exit(f"bench: more than {MOST_GROWTH} times as long a command")
+        if growth > most:
+            sys.exit(f"bench: more than {most} times as long a command")
 
 
 main()

@@ -135,6 +135,21 @@ def recovering(count, units, at_once):
     yield "end stop"
 
 
+def drained(count, units=4):
+    """The host is run on until it is drained, without step lines. In each sixteen sendings to a unit one finds it busy, one brings a
+    check that is tried again, one takes three ticks, and one isn't answered and is aborted. Each command ends GOOD."""
+    yield from hosts(units, 64, 16, 0)
+    faults = ["busy 2 16", "check 5 16", "latency 8 16", "never 11 16"]
+    values = {"check": " b 00 00", "latency": " 3"}
+    for i in range(units):
+        for fault in faults:
+            kind = fault.split()[0]
+            yield f"plan 0 {unit(i)} {fault} {count // 8 // units}{values.get(kind, '')}"
+    for line in commands(count, units, reads, 4):
+        yield line.replace(" 4 5 - ", " 4 20 - ")
+    yield "end drain"
+
+
 # The name of each script, how many commands it has, and its lines.
 SCRIPTS = [
     ("2,000 commands", 2_000, lambda: script(2_000)),
@@ -150,6 +165,9 @@ SCRIPTS = [
     ("20,000 timed out", 20_000, lambda: timed_out(20_000)),
     ("2,048 recovered, 64 at a time", 2_048, lambda: recovering(2_048, 16, 64)),
     ("2,048 recovered, 1,024 at a time", 2_048, lambda: recovering(2_048, 256, 1_024)),
+    ("2,048 drained", 2_048, lambda: drained(2_048)),
+    ("20,480 drained", 20_480, lambda: drained(20_480)),
+    ("65,536 drained", MOST_COMMANDS, lambda: drained(MOST_COMMANDS)),
 ]
 
 

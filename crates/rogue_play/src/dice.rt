@@ -34,3 +34,21 @@ impl Dice {
         all[self.below(all.len() as u32) as usize]
     }
 }
+
+#[cfg(test)]
+mod tests {
+    use super::*;
+
+    #[test]
+    fn numbers_are_below_what_was_asked_for(rt: HostRuntime) {
+        let mut dice = Dice::of(7);
+        for most in [1, 2, 6, 1000] {
+            assert!(rt; dice.below(most) < most, "below {most}");
+        }
+    }
+
+    #[test]
+    fn the_only_one_is_picked(rt: HostRuntime) {
+        assert_eq!(rt; Dice::of(7).one_of(&[5]), 5);
+    }
+}
