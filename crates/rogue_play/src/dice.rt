@@ -1,4 +1,4 @@
-ghost use Rattle.std.specs.Prelude.{◌<◌, ◌≡◌, length, slice_get, Some};
+ghost use Rattle.std.specs.Prelude.{◌<◌, ◌≡◌, ℕ, length, slice_get, Some};
 
 use rand_pcg::Pcg32;
 use rand_pcg::rand_core::Rng;

@@ -77,11 +77,13 @@ fn answer(dice: &mut Dice) -> Answer {
 // The data-in of a probe: sense data, and at times more bytes than a probe may bring.
 fn brought(alloc: Global, dice: &mut Dice) -> Result<Vec<u8>, NoMemory> {
     let filled = if dice.below(8) == 0 { 3000 } else { 0 };
-    let mut bytes = dice.one_of(&SENSES).to_vec(alloc).map_err(|_| NoMemory)?;
-    bytes
-        .resize(filled.max(bytes.len()), 0x70)
-        .map_err(|_| NoMemory)?;
-    Ok(bytes)
+    let Ok(mut bytes) = dice.one_of(&SENSES).to_vec(alloc) else {
+        return Err(NoMemory);
+    };
+    match bytes.resize(filled.max(bytes.len()), 0x70) {
+        Ok(()) => Ok(bytes),
+        Err(_) => Err(NoMemory),
+    }
 }
 
 fn probe(alloc: Global, dice: &mut Dice) -> Result<(ProbeSay, Vec<u8>), NoMemory> {

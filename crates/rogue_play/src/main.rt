@@ -1,4 +1,4 @@
-//! Plays the first host of a script over lower layers that lie, and writes what comes of each as `scsi_play` does: its journal, the
+//! Plays each host of a script over lower layers that lie, and writes what comes of each as `scsi_play` does: its journal, the
 //! results, the step lines that were skipped, and `end`.
 //!
 //! The words are FIRST and COUNT: liars of so many numbers from FIRST on are played. Each says other things, in each call: that

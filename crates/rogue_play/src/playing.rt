@@ -1,4 +1,4 @@
-ghost use Rattle.std.specs.Prelude.{◌≡◌, All, IfOk, IfSome};
+ghost use Rattle.std.specs.Prelude.{◌≡◌, IfOk};
 ghost use Rattle.mid_base.specs.Limits.{KeepsLimits};
 ghost use Rattle.trace_model.specs.Legal.{Legal};
 ghost use Rattle.script_text.specs.Playable.{IsPlayable};
@@ -17,21 +17,11 @@ type StepLine = (u64, HostNo, Step);
 /// Why a liar wasn't played.
 #[derive(Clone, Copy, PartialEq, Eq, Debug)]
 pub enum Unplayed {
-    /// The script is bad, or has no host.
+    /// The script is bad.
     BadScript,
     /// The sink failed.
     Unwritten,
     NoMemory,
-}
-
-// The first host of a script, and the script's step lines.
-fn first_host(script: Script) -> Option<(HostSpec, Rows<StepLine>)>
-    requires { IsPlayable script }
-    ensures { IfSome result (λ host. KeepsLimits host.0) }
-{
-    let Script { hosts, steps, .. } = script;
-    let first = hosts.into_vec().into_iter().next()?;
-    Some((first, steps))
 }
 
 // What the bytes of a script say.
@@ -51,7 +41,7 @@ fn script_of(alloc: Global, bytes: &[u8]) -> Result<Script, Unplayed>
     }
 }
 
-// Makes step lines, whatever host they name. Gives the numbers of those that were skipped, and why.
+// Makes the step lines of a core's host. Gives the numbers of those that were skipped, and why.
 fn make_all(
     alloc: Global,
     core: &mut Core<RogueLower>,
@@ -60,12 +50,23 @@ fn make_all(
     ensures { core.new.spec ≡ core.old.spec }
 {
     let mut skips = Vec::new(alloc);
-    for (line, _, step) in steps {
-        if let Did::Skipped(why) = core.step(*step)? {
-            skips.push((*line, why)).map_err(|_| NoMemory)?;
+    for (line, no, step) in steps {
+        if *no == core.spec().no {
+            note(&mut skips, *line, core.step(*step)?)?;
         }
     }
     Ok(skips)
+}
+
+// Keeps a step line that was skipped.
+fn note(skips: &mut Vec<(u64, Why)>, line: u64, did: Did) -> Result<(), NoMemory> {
+    match did {
+        Did::Done => Ok(()),
+        Did::Skipped(why) => match skips.push((line, why)) {
+            Ok(()) => Ok(()),
+            Err(_) => Err(NoMemory),
+        },
+    }
 }
 
 /// A host over a lower layer that says what it likes, after these steps: its journal is legal. With the steps that were skipped.
@@ -84,20 +85,33 @@ pub fn lied_to(
     Ok((core, skips))
 }
 
-/// Plays the first host of a script over the liar of a number, and writes its journal and the steps that were skipped.
+/// Plays each host of a script over the liar of a number, and writes for each its journal and the steps that were skipped.
 pub fn write_lied<K: Sink>(
     alloc: Global,
     script: &[u8],
     number: u64,
     out: &mut K,
 ) -> Result<(), Unplayed> {
-    let Some((spec, steps)) = first_host(script_of(alloc, script)?) else {
-        return Err(Unplayed::BadScript);
-    };
+    let Script { hosts, steps, .. } = script_of(alloc, script)?;
+    for spec in hosts.into_vec() {
+        write_host_lied(alloc, spec, steps.as_slice(), number, out)?;
+    }
+    Ok(())
+}
+
+fn write_host_lied<K: Sink>(
+    alloc: Global,
+    spec: HostSpec,
+    steps: &[StepLine],
+    number: u64,
+    out: &mut K,
+) -> Result<(), Unplayed>
+    requires { KeepsLimits spec }
+{
     let Ok(lower) = liar(alloc, number) else {
         return Err(Unplayed::NoMemory);
     };
-    let Ok((core, skips)) = lied_to(alloc, spec, steps.as_slice(), lower) else {
+    let Ok((core, skips)) = lied_to(alloc, spec, steps, lower) else {
         return Err(Unplayed::NoMemory);
     };
     let cmds = core.spec().cmds.as_slice();
