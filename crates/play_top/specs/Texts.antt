@@ -1,12 +1,14 @@
 -- What is written.
-use Rattle.std.specs.Prelude.{ℕ, List, [], ◌++◌, if◌then◌else◌, map, reverse, codes}
+use Rattle.std.specs.Prelude.{ℕ, List, [], ◌∷◌, ◌++◌, if◌then◌else◌, map, reverse, codes}
 use Rattle.std.specs.List.{flat_map}
 use Rattle.std.specs.Fmt.{decimal}
 use Rattle.mid_base.specs.declared.steps.Why.{Why}
 use Rattle.report_text.specs.Text.{HostJournal, host_text, text}
 use Rattle.report_text.specs.Order.{ascending}
 use Rattle.script_text.specs.declared.script.Bad.{Bad}
+use Rattle.mid_base.specs.declared.entries.Entry.{Entry}
 use Rattle.drain_rounds.specs.Making.{HostRun}
+use Rattle.made_script.specs.Sums.{sums_of, summary_text}
 use Rattle.play_sched.specs.Runs.{is_named}
 
 abbrev pub journal_of : HostRun → HostJournal
@@ -32,3 +34,12 @@ bad_text bad = codes "bad line " ++ (decimal bad.line ++ (codes " kind " ++ (dec
 
 abbrev pub usage_text : List ℕ
 usage_text = codes "usage\n"
+
+-- the journal of the first host
+abbrev pub first_journal : List HostRun → List Entry
+first_journal [] = []
+first_journal (run ∷ runs) = reverse run.entries
+
+-- the summary of so many commands of one host
+abbrev pub made_text : ℕ → List HostRun → List ℕ
+made_text count runs = summary_text count (sums_of (first_journal runs))

@@ -2,8 +2,8 @@
 ///
 /// | status | comes |
 /// |---|---|
-/// | 0 | the script was played and its journals written; if it ends with `end drain`, each host is drained |
-/// | 2 | the words of the command line aren't none, or `--` alone; `usage` was written |
+/// | 0 | the script was played and its journals written; if it ends with `end drain`, each host is drained. Or a script was made and played, and its summary written |
+/// | 2 | the words of the command line aren't known; `usage` was written |
 /// | 3 | the script is bad; `bad line L kind K` was written |
 /// | 4 | the source failed; nothing was written |
 /// | 5 | the sink failed; a front of the text was written |

@@ -90,13 +90,34 @@ fn runs_end_with_their_status(rt: HostRuntime) -> Result<(), Fail> {
     Ok(())
 }
 
+// What comes of words, where a script could be read.
+fn asked(alloc: Global, words: &[&str]) -> Result<(Status, Vec<u8>), Fail> {
+    let mut list = Vec::new(alloc);
+    for word in words {
+        list.push(word.to_string(alloc)?)?;
+    }
+    let bytes = FIRST.as_bytes().to_vec(alloc)?;
+    let mut source = MemSource::new(bytes, 16, Vec::new(alloc));
+    let mut sink = MemSink::new(alloc, 4096, Vec::new(alloc))?;
+    let status = play(alloc, &list, &mut source, &mut sink);
+    let text = sink.bytes().to_vec(alloc)?;
+    Ok((status, text))
+}
+
+// Lists of words, and what is written for each.
+const ASKED: [(&[&str], u8, &str); 4] = [
+    (&["--verbose"], 2, "usage\n"),
+    (&["--make", "0"], 2, "usage\n"),
+    (&["--make", "4"], 0, "commands 4 good 4 retries 0 ticks 1\nend\n"),
+    (&["--make=20", "--"], 0, "commands 20 good 20 retries 4 ticks 3\nend\n"),
+];
+
 #[test]
-fn words_are_refused(rt: HostRuntime) -> Result<(), Fail> {
-    let words = ["--verbose".to_string(rt.alloc())?];
-    let bytes = FIRST.as_bytes().to_vec(rt.alloc())?;
-    let mut source = MemSource::new(bytes, 16, Vec::new(rt.alloc()));
-    let mut sink = MemSink::new(rt.alloc(), 4096, Vec::new(rt.alloc()))?;
-    assert_eq!(rt; play(rt.alloc(), &words, &mut source, &mut sink), Status(2));
-    assert_eq!(rt; sink.bytes(), b"usage\n".as_slice());
+fn words_say_what_is_played(rt: HostRuntime) -> Result<(), Fail> {
+    for (words, wanted, text) in ASKED {
+        let (status, written) = asked(rt.alloc(), words)?;
+        assert_eq!(rt; status, Status(wanted), "the status of {text}");
+        assert_eq!(rt; written.as_slice(), text.as_bytes(), "the text that is written");
+    }
     Ok(())
 }

@@ -1,24 +1,28 @@
-ghost use Rattle.std.specs.Prelude.{◌≡◌, ◌⊎◌, [], true, false, map, string_bytes};
+ghost use Rattle.std.specs.Prelude.{◌≡◌, ℕ, ◌≤◌, ◌⊎◌, [], true, None, Some, map, string_bytes};
 ghost use Rattle.mid_io.specs.Causes.{Rose};
 ghost use Rattle.std.specs.Io.KnownBytes.{Appends};
 ghost use Rattle.mid_io.specs.Whole.{IsCutShort, TakesAtMost};
 ghost use Rattle.play_words.specs.Words.{mode_of};
+ghost use Rattle.play_words.specs.declared.mode.Mode.TheVariants.{Make};
 ghost use Rattle.play_top.specs.Reading.{most_bytes};
-ghost use Rattle.play_top.specs.Play.{IsPlayedRun, IsBadRun, IsCutOff, asks_for_script};
+ghost use Rattle.play_top.specs.Play.{IsPlayedRun, IsBadRun, IsCutOff, IsMadeRun, IsMadeCut, IsDone, IsCutBy, asks_for_script};
 ghost use Rattle.play_top.specs.Texts.{usage_text};
 
 use crate::reading::{Unread, read_script};
 use crate::status::Status;
-use crate::writing::{write_bad, write_played};
+use crate::writing::{write_bad, write_made, write_played};
+use made_script::{made, made_scripts_are_playable};
 use mid_io::{Sink, Source, write_all};
 use play_sched::play_script;
 use play_words::{Mode, listed};
 use report_text::WriteEnd;
 use std::alloc::Global;
 
-/// Plays the script of a source and writes the journals of its hosts.
+/// Plays the script of a source and writes the journals of its hosts, or plays a script of so many commands that it makes itself and
+/// writes its summary.
 ///
-/// `words` are those of the command line without the program's name: none, or `--` alone. As yet no other list is known.
+/// `words` are those of the command line without the program's name, as `play_words::listed` knows them: none for the script, or
+/// `--make N` or `--make=N` for N commands, 1 to 20,000, each with or without a last word `--`.
 ///
 /// A script is played by its step lines, in their order, each on the host that it names; each host's lower layer is a
 /// simulated adapter with the planned faults of that host. A script that ends with `end drain` is then run on in rounds, until
@@ -26,26 +30,57 @@ use std::alloc::Global;
 /// `host H`, a line `TICK TEXT` for each entry of its journal and a line `result ..` for each of its commands; then a line
 /// `skipped LINE WHY` for each step line that wasn't enabled, and the line `end`.
 ///
+/// A script that is made (`made_script::made`) is drained; nothing is read for it, and what is written is the line
+/// `commands N good G retries R ticks K` and the line `end`: how many commands were reported GOOD, how many retries were counted,
+/// and how many ticks went by.
+///
 /// The status says what came of it; where memory runs out it is 7, whatever else holds.
 pub fn play<S: Source, K: Sink>(alloc: Global, words: &[String], src: &mut S, out: &mut K) -> Status
-    ensures ok { result.0 ≡ 0 → (asks_for_script (map string_bytes words.now) ≡ true) × IsPlayedRun false (S.left src.old) (S.left src.new) (K.written out.old) (K.written out.new) }
+    ensures ok { result.0 ≡ 0 → IsDone (mode_of (map string_bytes words.now)) src.old src.new (S.left src.old) (S.left src.new) (K.written out.old) (K.written out.new) }
     ensures short { result.0 ≡ 6 → (asks_for_script (map string_bytes words.now) ≡ true) × IsPlayedRun true (S.left src.old) (S.left src.new) (K.written out.old) (K.written out.new) }
-    ensures usage { result.0 ≡ 2 → (asks_for_script (map string_bytes words.now) ≡ false) × (src.new ≡ src.old) × Appends (K.written out.old) (K.written out.new) usage_text }
+    ensures usage { result.0 ≡ 2 → (mode_of (map string_bytes words.now) ≡ None) × (src.new ≡ src.old) × Appends (K.written out.old) (K.written out.new) usage_text }
     ensures bad { result.0 ≡ 3 → (asks_for_script (map string_bytes words.now) ≡ true) × IsBadRun (S.left src.old) (K.written out.old) (K.written out.new) }
     ensures read { result.0 ≡ 4 → (asks_for_script (map string_bytes words.now) ≡ true) × Rose (S.faults src.old) (S.faults src.new) × (out.new ≡ out.old) }
     ensures write { result.0 ≡ 5 → Rose (K.faults out.old) (K.faults out.new) }
-    ensures cut_usage { result.0 ≡ 5 → asks_for_script (map string_bytes words.now) ≡ false → IsCutShort (K.written out.old) (K.written out.new) usage_text }
+    ensures cut_usage { result.0 ≡ 5 → mode_of (map string_bytes words.now) ≡ None → (src.new ≡ src.old) × IsCutShort (K.written out.old) (K.written out.new) usage_text }
     ensures cut { result.0 ≡ 5 → asks_for_script (map string_bytes words.now) ≡ true → IsCutOff (S.left src.old) (K.written out.old) (K.written out.new) }
-    ensures memory { result.0 ≡ 7 → (asks_for_script (map string_bytes words.now) ≡ true) × IsCutOff (S.left src.old) (K.written out.old) (K.written out.new) }
+    ensures cut_made { result.0 ≡ 5 → (count : ℕ) → mode_of (map string_bytes words.now) ≡ Some (Make count) → (src.new ≡ src.old) × IsMadeCut count (K.written out.old) (K.written out.new) }
+    ensures memory { result.0 ≡ 7 → IsCutBy (mode_of (map string_bytes words.now)) src.old src.new (S.left src.old) (K.written out.old) (K.written out.new) }
     ensures statuses { (result.0 ≡ 0) ⊎ (result.0 ≡ 2) ⊎ (result.0 ≡ 3) ⊎ (result.0 ≡ 4) ⊎ (result.0 ≡ 5) ⊎ (result.0 ≡ 6) ⊎ (result.0 ≡ 7) }
     ensures bound { TakesAtMost (S.left src.old) (S.left src.new) most_bytes }
 {
-    if !asks_for_script(words) {
-        return match write_all(out, b"usage\n") {
-            Ok(()) => Status(2),
-            Err(_) => Status(5),
-        };
+    match listed(words) {
+        Some(Mode::Script) => play_source(alloc, src, out),
+        Some(Mode::Make(count)) => play_made(alloc, count, out),
+        None => refuse(out),
     }
+}
+
+// Writes how the program is called.
+fn refuse<K: Sink>(out: &mut K) -> Status
+    ensures usage { result.0 ≡ 2 → Appends (K.written out.old) (K.written out.new) usage_text }
+    ensures write { result.0 ≡ 5 → Rose (K.faults out.old) (K.faults out.new) }
+    ensures cut { result.0 ≡ 5 → IsCutShort (K.written out.old) (K.written out.new) usage_text }
+    ensures statuses { (result.0 ≡ 2) ⊎ (result.0 ≡ 5) }
+{
+    match write_all(out, b"usage\n") {
+        Ok(()) => Status(2),
+        Err(_) => Status(5),
+    }
+}
+
+// Plays the script of a source.
+fn play_source<S: Source, K: Sink>(alloc: Global, src: &mut S, out: &mut K) -> Status
+    ensures ok { result.0 ≡ 0 → IsPlayedRun false (S.left src.old) (S.left src.new) (K.written out.old) (K.written out.new) }
+    ensures short { result.0 ≡ 6 → IsPlayedRun true (S.left src.old) (S.left src.new) (K.written out.old) (K.written out.new) }
+    ensures bad { result.0 ≡ 3 → IsBadRun (S.left src.old) (K.written out.old) (K.written out.new) }
+    ensures read { result.0 ≡ 4 → Rose (S.faults src.old) (S.faults src.new) × (out.new ≡ out.old) }
+    ensures write { result.0 ≡ 5 → Rose (K.faults out.old) (K.faults out.new) }
+    ensures cut { result.0 ≡ 5 → IsCutOff (S.left src.old) (K.written out.old) (K.written out.new) }
+    ensures memory { result.0 ≡ 7 → IsCutOff (S.left src.old) (K.written out.old) (K.written out.new) }
+    ensures statuses { (result.0 ≡ 0) ⊎ (result.0 ≡ 3) ⊎ (result.0 ≡ 4) ⊎ (result.0 ≡ 5) ⊎ (result.0 ≡ 6) ⊎ (result.0 ≡ 7) }
+    ensures bound { TakesAtMost (S.left src.old) (S.left src.new) most_bytes }
+{
     match read_script(alloc, src) {
         Ok(script) => match play_script(alloc, script) {
             Ok(played) => match write_played(alloc, &played, out) {
@@ -66,8 +101,25 @@ pub fn play<S: Source, K: Sink>(alloc: Global, words: &[String], src: &mut S, ou
     }
 }
 
-fn asks_for_script(words: &[String]) -> bool
-    ensures { result ≡ asks_for_script (map string_bytes words.now) }
+// Plays the script that so many commands ask for, and writes its summary.
+fn play_made<K: Sink>(alloc: Global, count: u32, out: &mut K) -> Status
+    requires { count ≤ 65536 }
+    ensures ok { result.0 ≡ 0 → IsMadeRun count (K.written out.old) (K.written out.new) }
+    ensures write { result.0 ≡ 5 → Rose (K.faults out.old) (K.faults out.new) }
+    ensures cut { result.0 ≡ 5 → IsMadeCut count (K.written out.old) (K.written out.new) }
+    ensures memory { result.0 ≡ 7 → IsMadeCut count (K.written out.old) (K.written out.new) }
+    ensures statuses { (result.0 ≡ 0) ⊎ (result.0 ≡ 5) ⊎ (result.0 ≡ 7) }
 {
-    matches!(listed(words), Some(Mode::Script))
+    made_scripts_are_playable();
+    match made(alloc, count) {
+        Ok(script) => match play_script(alloc, script) {
+            Ok(played) => match write_made(alloc, count, &played, out) {
+                Ok(()) => Status(0),
+                Err(WriteEnd::Fault) => Status(5),
+                Err(WriteEnd::NoMemory) => Status(7),
+            },
+            Err(_) => Status(7),
+        },
+        Err(_) => Status(7),
+    }
 }

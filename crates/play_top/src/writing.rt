@@ -2,8 +2,10 @@ ghost use Rattle.std.specs.Prelude.{◌≤◌, ◌≡◌, All, IfOk, string_byte
 ghost use Rattle.std.specs.List.{flat_map};
 ghost use Rattle.report_text.specs.Ends.{WritesText};
 ghost use Rattle.play_sched.specs.Runs.{IsNumbered};
-ghost use Rattle.play_top.specs.Texts.{bad_text, hosts_text, named_text, played_text};
+ghost use Rattle.play_top.specs.Texts.{bad_text, first_journal, hosts_text, made_text, named_text, played_text};
+ghost use Rattle.made_script.specs.Sums.{sums_of};
 
+use made_script::{Sums, sums_of, write_summary};
 use mid_io::{Sink, write_all};
 use play_sched::{Host, Played};
 use report_text::{WriteEnd, write_host, write_skips};
@@ -70,6 +72,28 @@ fn write_if_named<K: Sink>(
         return Ok(());
     }
     write_host(alloc, spec.no, spec.cmds.as_slice(), host.journal(), out)
+}
+
+/// Writes the summary of so many commands of the first host.
+pub fn write_made<K: Sink>(
+    alloc: Global,
+    count: u32,
+    played: &Played,
+    out: &mut K,
+) -> Result<(), WriteEnd>
+    ensures answer { WritesText (K.written out.old) (K.written out.new) (made_text count played.now.hosts.items) (K.faults out.old) (K.faults out.new) result }
+    ensures later { K.faults out.old ≤ K.faults out.new }
+{
+    write_summary(alloc, count, first_sums(&played.hosts), out)
+}
+
+fn first_sums(hosts: &[Host]) -> Sums
+    ensures { result ≡ sums_of (first_journal hosts.now) }
+{
+    match hosts.first() {
+        Some(host) => sums_of(host.journal()),
+        None => sums_of(&[]),
+    }
 }
 
 /// Writes the line of a bad script.

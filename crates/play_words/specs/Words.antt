@@ -1,5 +1,5 @@
 -- Which lists of words are known: none, `--make N` and `--make=N`, each alone or with a last word `--`.
-use Rattle.std.specs.Prelude.{ℕ, ◌==◌, Bool, not, ◌&&◌, nat_le, if◌then◌else◌, List, [], ◌∷◌, length, take, drop, slice_index, Option, Some, None, codes}
+use Rattle.std.specs.Prelude.{ℕ, ◌==◌, ◌≤◌, Bool, not, ◌&&◌, nat_le, if◌then◌else◌, List, [], ◌∷◌, length, take, drop, slice_index, Option, Some, None, ⊤, codes}
 use Rattle.std.specs.Str.{bytes_eq}
 use Rattle.script_words.specs.Pieces.{number}
 use Rattle.play_words.specs.declared.mode.Mode.{Mode}
@@ -34,3 +34,8 @@ mode_of (word ∷ []) = if is_end word then Some Script else joined word
 mode_of (name ∷ word ∷ []) = if is_end word then joined name else if is_make name then make word else None
 mode_of (name ∷ word ∷ end ∷ []) = if is_make name && is_end end then make word else None
 mode_of _ = None
+
+-- no more than 20,000 commands are asked for
+abbrev pub IsFew : Option Mode → Type 0
+IsFew (Some (Make n)) = n ≤ 20000
+IsFew mode = ⊤

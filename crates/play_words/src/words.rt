@@ -1,5 +1,5 @@
 ghost use Rattle.std.specs.Prelude.{◌≡◌, ◌==◌, map, slice_index, string_bytes};
-ghost use Rattle.play_words.specs.Words.{joined, make, mode_of};
+ghost use Rattle.play_words.specs.Words.{IsFew, joined, make, mode_of};
 
 use crate::Mode;
 use script_words::number_in;
@@ -12,7 +12,8 @@ const MOST_COMMANDS: u128 = 20_000;
 /// No words ask for the script; `--make N` and `--make=N` for N commands, where N is one to five digits without a leading
 /// zero, 1 to 20,000. Each may be followed by a last word `--`. Any other list is None.
 pub fn listed(words: &[String]) -> Option<Mode>
-    ensures { result ≡ mode_of (map string_bytes words.now) }
+    ensures mode { result ≡ mode_of (map string_bytes words.now) }
+    ensures few { IsFew result }
 {
     match words {
         [] => Some(Mode::Script),
@@ -29,7 +30,8 @@ pub fn listed(words: &[String]) -> Option<Mode>
 
 // One word, in which the number stands behind the sign.
 fn joined_in(word: &[u8]) -> Option<Mode>
-    ensures { result ≡ joined word.now }
+    ensures mode { result ≡ joined word.now }
+    ensures few { IsFew result }
 {
     if !word.starts_with(b"--make=") {
         return None;
@@ -39,7 +41,8 @@ fn joined_in(word: &[u8]) -> Option<Mode>
 
 // A word that is a number of commands.
 fn make_of(word: &[u8]) -> Option<Mode>
-    ensures { result ≡ make word.now }
+    ensures mode { result ≡ make word.now }
+    ensures few { IsFew result }
 {
     if word.len() > 5 || begins_with_zero(word) {
         return None;

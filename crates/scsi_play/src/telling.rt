@@ -36,7 +36,7 @@ pub fn bad_line(printed: &[u8]) -> Option<(&str, &'static str)> {
 pub fn failure(status: Status) -> Option<&'static str> {
     match status.0 {
         2 => Some(
-            "it takes no words but --; a script comes on standard input, as in scsi_play < SCRIPT",
+            "a script comes on standard input, as in scsi_play < SCRIPT; its only words are --make N, 1 to 20000, and --",
         ),
         4 => Some("the script couldn't be read"),
         5 => Some("the output couldn't be written"),
