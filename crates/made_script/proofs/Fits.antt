@@ -3,6 +3,7 @@ use Rattle.std.proofs.Common.{◌≡◌, ℕ, zero, suc, ◌+◌, ◌*◌, ◌%�
 use Rattle.std.specs.Prelude.{◌==◌, nat_le}
 use Rattle.std.specs.List.{list_any, list_all}
 use Rattle.std.proofs.lemmas.List.Folds.{list_any-append}
+use Rattle.std.proofs.lemmas.List.Elements.{All-cons, All-nil}
 use Rattle.std.proofs.lemmas.Bool.{le-leb}
 use Rattle.std.proofs.lemmas.Bool.Decides.{nat_tests}
 use Rattle.mid_base.specs.Address.{has_dev}
@@ -10,7 +11,7 @@ use Rattle.mid_base.specs.Bytes.{cdb_list}
 use Rattle.mid_base.specs.Limits.{is_between, is_command, has_block, differ_in_id, KeepsLimits}
 use Rattle.mid_base.specs.declared.host_spec.CmdSpec.{CmdSpec}
 use Rattle.script_words.specs.Hex.{cdb_of}
-use Rattle.script_text.specs.Playable.{IsPlayable}
+use Rattle.script_text.specs.Playable.{IsPlayable, IsStepOf}
 use Rattle.script_text.proofs.Grown.{all_more, ids_more}
 use Rattle.made_script.specs.Made.{address, command, commands, host, made, read, units}
 
@@ -68,4 +69,10 @@ keeps_limits n few =
     }
 
 pub is_playable : (n : ℕ) → n ≤ 65536 → IsPlayable (made n)
-is_playable n few = record { limits = (keeps_limits n few, tt); numbers = refl; steps = tt; no_scan = refl }
+is_playable n few =
+    record {
+      limits = All-cons KeepsLimits (host n) [] (keeps_limits n few) (All-nil KeepsLimits);
+      numbers = refl;
+      steps = All-nil (IsStepOf (host n ∷ []));
+      no_scan = refl;
+    }

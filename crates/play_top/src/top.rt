@@ -111,15 +111,15 @@ fn play_made<K: Sink>(alloc: Global, count: u32, out: &mut K) -> Status
     ensures statuses { (result.0 ≡ 0) ⊎ (result.0 ≡ 5) ⊎ (result.0 ≡ 7) }
 {
     made_scripts_are_playable();
-    match made(alloc, count) {
-        Ok(script) => match play_script(alloc, script) {
-            Ok(played) => match write_made(alloc, count, &played, out) {
-                Ok(()) => Status(0),
-                Err(WriteEnd::Fault) => Status(5),
-                Err(WriteEnd::NoMemory) => Status(7),
-            },
-            Err(_) => Status(7),
-        },
-        Err(_) => Status(7),
+    let Ok(script) = made(alloc, count) else {
+        return Status(7);
+    };
+    let Ok(played) = play_script(alloc, script) else {
+        return Status(7);
+    };
+    match write_made(alloc, count, &played, out) {
+        Ok(()) => Status(0),
+        Err(WriteEnd::Fault) => Status(5),
+        Err(WriteEnd::NoMemory) => Status(7),
     }
 }
