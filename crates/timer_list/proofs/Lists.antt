@@ -1,10 +1,10 @@
 -- How the deadlines of a list change, and which timers it holds.
-use Rattle.std.proofs.Common.{◌≡◌, ◌∙◌, ℕ, ◌+◌, ◌<◌, ◌≤◌, ◌==◌, true, false, if◌then◌else◌, List, [], ◌∷◌, ◌++◌, length, get_or, take, drop, Option, None, Some, refl, arith, inl, inr, ap, sym, subst}
+use Rattle.std.proofs.Common.{◌≡◌, ◌∙◌, ℕ, ◌+◌, ◌<◌, ◌≤◌, ◌==◌, true, false, if◌then◌else◌, List, [], ◌∷◌, ◌++◌, length, get_or, take, drop, Option, None, Some, refl, arith, inl, inr, ap, sym, subst, suc}
 use Rattle.std.specs.Prelude.{is_some, IsSome}
 use Rattle.std.specs.List.{All, Contains, insert, remove}
 use Rattle.std.proofs.lemmas.Bool.{cases_eq}
 use Rattle.std.proofs.lemmas.Bool.Decides.{nat_tests}
-use Rattle.std.proofs.lemmas.List.{take-append-drop}
+use Rattle.std.proofs.lemmas.List.{take-append-drop, get_or_default}
 use Rattle.std.proofs.lemmas.List.Elements.{All-nil, All-cons, All-head, All-tail, All-weaker, All-get_or}
 use Rattle.std.proofs.Math.Seq.{drop-cons}
 use Rattle.mid_base.specs.declared.names.Attempt.{Attempt}
@@ -21,15 +21,19 @@ differ_between x [] back absent differ = (absent, differ)
 differ_between x (t ∷ front) back absent differ =
     (grind (arith, nat_tests, put_between x front back), differ_between x front back (grind (arith, nat_tests)) differ.1)
 
+has_between : (x : Timer) (front back : List Timer) (n : ℕ) → deadline_of n (front ++ x ∷ back) ≡ None → n ≡ x.0.0 → ⊥
+has_between x [] back n absent same = grind (arith, nat_tests)
+has_between x (t ∷ front) back n absent same = grind (arith, nat_tests, has_between x front back n)
+
 -- a timer less between two parts of a list
 drop_between : (x : Timer) (front back : List Timer) → Differ (front ++ x ∷ back) → Becomes x.0.0 None (front ++ x ∷ back) (front ++ back)
 drop_between x [] back differ m = grind (arith, nat_tests)
-drop_between x (t ∷ front) back differ m = grind (arith, nat_tests, drop_between x front back differ.1, differ.0)
+drop_between x (t ∷ front) back differ m = grind (arith, nat_tests, drop_between x front back differ.1 m, has_between x front back t.0.0 differ.0)
 
 differ_without : (x : Timer) (front back : List Timer) → Differ (front ++ x ∷ back) → Differ (front ++ back)
 differ_without x [] back differ = differ.1
 differ_without x (t ∷ front) back differ =
-    (grind (arith, nat_tests, drop_between x front back differ.1, differ.0), differ_without x front back differ.1)
+    (grind (arith, nat_tests, drop_between x front back differ.1 t.0.0, differ.0), differ_without x front back differ.1)
 
 -- the same of a place
 pub put_becomes : (x : Timer) (ts : List Timer) (place : ℕ) → deadline_of x.0.0 ts ≡ None → Becomes x.0.0 (Some x.1.0) ts (insert ts place x)
@@ -94,6 +98,12 @@ absent_from n (t ∷ ts) all =
     let head : t.0.0 ≡ n → ⊥ = All-head (λ (x : Timer). x.0.0 ≡ n → ⊥) t ts all in
     let rest : deadline_of n ts ≡ None = absent_from n ts (All-tail (λ (x : Timer). x.0.0 ≡ n → ⊥) t ts all) in
     grind (arith, nat_tests)
+
+-- the place of an attempt's timer
+pub standing : (ts : List Timer) (d : Timer) (m other : ℕ) → deadline_of m ts ≡ Some other → (k : ℕ) × (k < length ts) × ((get_or ts k d).0.0 ≡ m) × ((get_or ts k d).1.0 ≡ other)
+standing ts d =
+    of_all (λ m other. (k : ℕ) × (k < length ts) × ((get_or ts k d).0.0 ≡ m) × ((get_or ts k d).1.0 ≡ other)) ts
+    (λ k e within. (k, within, ap (λ (t : Timer). t.0.0) (get_or_default ts k d e within), ap (λ (t : Timer). t.1.0) (get_or_default ts k d e within)))
 
 pub none_due : (ts : List Timer) (now : ℕ) → IsFirstOf ts now None → IsFirstDue ts now None
 none_due ts now all = of_all (λ n deadline. now < deadline) ts all
