@@ -108,6 +108,9 @@ standing ts d =
 pub none_due : (ts : List Timer) (now : ℕ) → IsFirstOf ts now None → IsFirstDue ts now None
 none_due ts now all = of_all (λ n deadline. now < deadline) ts all
 
-pub first_due : (ts : List Timer) (now : ℕ) (x : Timer) → deadline_of x.0.0 ts ≡ Some x.1.0 → IsFirstOf ts now (Some x) → IsFirstDue ts now (Some x.0)
-first_due ts now x has is =
+pub first_due : (ts : List Timer) (now : ℕ) (x : Timer) → Differ ts → IsFirstOf ts now (Some x) → IsFirstDue ts now (Some x.0)
+first_due ts now x differ is =
+    let has : deadline_of x.0.0 ts ≡ Some x.1.0 =
+    subst (λ (t : Timer). deadline_of t.0.0 ts ≡ Some t.1.0) is.0.2 (found_at ts is.0.0 x is.0.1 differ)
+    in
     (x.1.0, has, is.1, of_all (λ m other. is_before x.0.0 x.1.0 m other ≡ true) ts is.2)

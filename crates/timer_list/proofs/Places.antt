@@ -3,7 +3,7 @@ use Rattle.std.proofs.Common.{◌≡◌, ◌∙◌, ℕ, ◌+◌, ◌-◌, ◌<�
 use Rattle.std.specs.List.{All, Contains, insert, remove}
 use Rattle.std.specs.List.Sorted.{IsPartitionedBy, IsPartitionPoint}
 use Rattle.std.proofs.lemmas.Bool.Decides.{nat_tests}
-use Rattle.std.specs.Prelude.{IsSome}
+use Rattle.std.specs.Prelude.{IsSome, is_some, if◌then◌else◌}
 use Rattle.std.proofs.lemmas.List.{get_or_default}
 use Rattle.std.proofs.lemmas.List.Edits.{length-insert, get_or-insert_below, get_or-insert_at, get_or-insert_above, length-remove, get_or-remove_below, get_or-remove_above}
 use Rattle.timer_list.specs.Timers.{Timer, deadline_of, Differ, Becomes, IsFirstOf}
@@ -53,6 +53,10 @@ dropped n x ts place differ at =
 pub has_some : (n : ℕ) (x : Timer) (ts : List Timer) (place : ℕ) → Differ ts → IsAt n ts place → IsSome (deadline_of n ts)
 has_some n x ts place differ at =
     grind (arith, found_at ts place x at.within differ, at.number x)
+
+pub counted : (n : ℕ) (x : Timer) (ts : List Timer) (place : ℕ) → Differ ts → IsAt n ts place → length ts ≡ length (remove ts place) + (if is_some (deadline_of n ts) then 1 else 0)
+counted n x ts place differ at =
+    grind (arith, length-remove ts place at.within, found_at ts place x at.within differ, at.number x)
 
 -- the two orders
 pub lower_chains : Chains is_lower
@@ -106,8 +110,13 @@ kept_put x numbers deadlines p q kept absent at_p at_q =
       each = λ m. grind (arith, put_becomes x numbers p none m, put_becomes x deadlines q absent m, kept.each m);
     }
 
-pub stands_too : (n : ℕ) (x : Timer) (numbers deadlines : List Timer) (p q : ℕ) → AreKept numbers deadlines → IsAt n numbers p → x ≡ get_or numbers p x → IsPlace is_earlier x deadlines q → IsAt n deadlines q
-stands_too n x numbers deadlines p q kept at_p is at_q =
+-- a timer that the search by number has found and taken out of its row stands where the search by deadline ends; each has
+-- searched what it was lent
+pub stands_too : (n : ℕ) (x : Timer) (numbers deadlines lent other : List Timer) (p q : ℕ) → AreKept numbers deadlines → lent ≡ numbers → IsAt n lent p → x ≡ get_or numbers p x
+    → other ≡ deadlines → IsPlace is_earlier x other q → IsAt n deadlines q
+stands_too n x numbers deadlines lent other p q kept same at_lent is same_other at_other =
+    let at_p : IsAt n numbers p = subst (λ (ts : List Timer). IsAt n ts p) same at_lent in
+    let at_q : IsPlace is_earlier x deadlines q = subst (λ (ts : List Timer). IsPlace is_earlier x ts q) same_other at_other in
     let number : x.0.0 ≡ n = ap (λ (t : Timer). t.0.0) is ∙ at_p.number x in
     let has : deadline_of x.0.0 numbers ≡ Some x.1.0 =
     subst (λ (t : Timer). deadline_of t.0.0 numbers ≡ Some t.1.0) (sym is) (found_at numbers p x at_p.within kept.by_number.differ)
