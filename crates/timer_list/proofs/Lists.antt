@@ -1,14 +1,11 @@
 -- How the deadlines of a list change, and which timers it holds.
-use Rattle.std.proofs.Common.{◌≡◌, ◌∙◌, ℕ, ◌+◌, ◌<◌, ◌≤◌, ◌==◌, true, false, if◌then◌else◌, List, [], ◌∷◌, ◌++◌, length, get_or, take, drop, Option, None, Some, refl, arith, inl, inr, ap, sym, subst, suc}
-use Rattle.std.specs.Prelude.{is_some, IsSome}
-use Rattle.std.specs.List.{All, Contains, insert, remove}
+use Rattle.std.proofs.Common.{◌≡◌, ◌∙◌, ℕ, ◌<◌, ◌==◌, true, if◌then◌else◌, List, [], ◌∷◌, ◌++◌, length, get_or, take, drop, Option, None, Some, refl, arith, inl, inr, ap, sym, subst, suc}
+use Rattle.std.specs.List.{All, insert, remove}
 use Rattle.std.proofs.lemmas.Bool.{cases_eq}
 use Rattle.std.proofs.lemmas.Bool.Decides.{nat_tests}
 use Rattle.std.proofs.lemmas.List.{take-append-drop, get_or_default}
 use Rattle.std.proofs.lemmas.List.Elements.{All-nil, All-cons, All-head, All-tail, All-weaker, All-get_or}
 use Rattle.std.proofs.Math.Seq.{drop-cons}
-use Rattle.mid_base.specs.declared.names.Attempt.{Attempt}
-use Rattle.mid_base.specs.declared.names.Tick.{Tick}
 use Rattle.timer_list.specs.Timers.{Timer, deadline_of, Differ, Becomes, is_before, IsFirstDue, IsFirstOf}
 
 -- a timer more between two parts of a list

@@ -1,7 +1,7 @@
 -- Where a search in a row ends, and that edits keep its order.
-use Rattle.std.proofs.Common.{◌≡◌, ◌∙◌, ℕ, ◌+◌, ◌-◌, ◌<◌, ◌≤◌, ◌==◌, true, false, Bool, List, length, get_or, Option, None, Some, refl, arith, ap, sym, subst}
-use Rattle.std.specs.List.{All, Contains, insert, remove}
-use Rattle.std.specs.List.Sorted.{IsPartitionedBy, IsPartitionPoint}
+use Rattle.std.proofs.Common.{◌≡◌, ◌∙◌, ℕ, ◌+◌, ◌-◌, ◌<◌, ◌≤◌, true, Bool, List, length, get_or, None, Some, arith, ap, sym, subst}
+use Rattle.std.specs.List.{insert, remove}
+use Rattle.std.specs.List.Sorted.{IsPartitionedBy}
 use Rattle.std.proofs.lemmas.Bool.Decides.{nat_tests}
 use Rattle.std.specs.Prelude.{IsSome, is_some, if◌then◌else◌}
 use Rattle.std.proofs.lemmas.List.{get_or_default}
@@ -28,7 +28,7 @@ row_put precedes x ts place row at absent after = record {
       let low : (k : ℕ) → k < place → get_or new k d ≡ get_or ts k d = λ k below. get_or-insert_below ts place x d k below at.within in
       let here : (k : ℕ) → k ≡ place → get_or new k d ≡ x = λ k same. subst (λ (q : ℕ). get_or new q d ≡ x) (sym same) (get_or-insert_at ts place x d at.within) in
       let high : (k : ℕ) → place < k → get_or new k d ≡ get_or ts (k - 1) d = λ k above.
-          subst (λ (q : ℕ). get_or new q d ≡ get_or ts (k - 1) d) {x = k - 1 + 1} (omega arith) (get_or-insert_above ts place x d (k - 1) (omega arith) at.within)
+      subst (λ (q : ℕ). get_or new q d ≡ get_or ts (k - 1) d) {x = k - 1 + 1} (omega arith) (get_or-insert_above ts place x d (k - 1) (omega arith) at.within)
       in
       grind (arith, low i, here i, high i, low j, here j, high j, row.ordered i j d, row.ordered i (j - 1) d, row.ordered (i - 1) (j - 1) d, at.below i d, after (j - 1) d);
   differ = put_differs x ts place absent row.differ;
@@ -84,7 +84,7 @@ put_by_deadline x ts place row at absent =
 pub no_number : (x : Timer) (ts : List Timer) (place : ℕ) → IsRow is_lower ts → IsPlace is_lower x ts place → (place < length ts → (d : Timer) → (get_or ts place d).0.0 ≡ x.0.0 → ⊥) → deadline_of x.0.0 ts ≡ None
 no_number x ts place row at other =
     absent_from x.0.0 ts (λ k d within same.
-        grind (arith, nat_tests, at.below k d, at.others k d, at.others place d, row.ordered place k d, (λ (in_row : place < length ts). other in_row d)))
+    grind (arith, nat_tests, at.below k d, at.others k d, at.others place d, row.ordered place k d, (λ (in_row : place < length ts). other in_row d)))
 
 -- a search by deadline ends at the timer itself
 pub stands : (x : Timer) (ts : List Timer) (place : ℕ) → IsRow is_earlier ts → IsPlace is_earlier x ts place → deadline_of x.0.0 ts ≡ Some x.1.0 → IsAt x.0.0 ts place

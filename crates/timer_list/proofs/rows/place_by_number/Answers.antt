@@ -1,7 +1,7 @@
-use Rattle.std.proofs.Common.{rules, arith, ◌≡◌, true, false}
+use Rattle.std.proofs.Common.{rules, arith}
 use Rattle.std.proofs.lemmas.List.Sorted.{IsPartitionPoint-from_clause}
 use Rattle.timer_list.specs.Timers.{Timer}
-use Rattle.timer_list.specs.Orders.{is_lower, IsPlace}
+use Rattle.timer_list.specs.Orders.{is_lower}
 use Rattle.timer_list.proofs.Places.{parted, lower_chains}
 use Rattle.timer_list.proofs.rows.place_by_number.Goals as goal
 

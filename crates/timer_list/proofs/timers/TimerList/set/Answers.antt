@@ -1,8 +1,7 @@
 use Rattle.std.proofs.Common.{◌≡◌, ◌∙◌, ap, subst, sym, arith, List, None, Some, if◌then◌else◌, ◌==◌}
-use Rattle.std.specs.List.{insert}
 use Rattle.std.proofs.lemmas.Grind.{common_steps}
 use Rattle.timer_list.specs.Timers.{Timer, Timers, deadline_of}
-use Rattle.timer_list.specs.Orders.{is_lower, is_earlier, IsPlace, AreKept}
+use Rattle.timer_list.specs.Orders.{is_lower, is_earlier, IsPlace}
 use Rattle.timer_list.proofs.Lists.{put_becomes}
 use Rattle.timer_list.proofs.Places.{kept_put}
 use Rattle.timer_list.proofs.timers.TimerList.set.Goals as goal
@@ -18,8 +17,7 @@ invariant_of-self c =
     in
     let at_deadline : IsPlace is_earlier x c.self.inside.by_deadline.items c.place_by_deadline-place.result =
     subst (λ (ts : List Timer). IsPlace is_earlier x ts c.place_by_deadline-place.result) c.deref-2.ensures.value c.place_by_deadline-place.ensures
-    in
-    (
+    in (
       rw c.put.ensures.items (rw c.put-2.ensures.items
           (kept_put x c.self.inside.by_number.items c.self.inside.by_deadline.items c.place_by_number-place.result c.place_by_deadline-place.result c.self.invariant.0 absent at_number at_deadline)),
       grind (arith, common_steps, c.put-2.ensures.len, c.self.view_is, c.requires.room),
