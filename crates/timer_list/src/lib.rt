@@ -5,6 +5,7 @@
 //! when it is made; no later call takes memory.
 #![tactic(auto)]
 
+mod rows;
 #[cfg(test)]
 mod tests;
 mod timers;

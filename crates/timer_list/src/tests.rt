@@ -1,3 +1,5 @@
+ghost use Rattle.std.specs.Prelude.{◌≡◌, ◌≤◌, ◌<◌, ◌+◌, ◌^◌, length};
+
 use crate::TimerList;
 use mid_base::{Attempt, NoMemory, Tick};
 use std::alloc::Global;
@@ -57,4 +59,108 @@ fn a_thousand_timers_come_in_the_order_of_deadline_and_number(rt: HostRuntime) {
         }
         assert_eq!(rt; timers.due(Tick(now)), None);
     }
+}
+
+#[test]
+fn an_extended_timer_comes_behind_the_others(rt: HostRuntime) {
+    let Ok(mut timers) = TimerList::new(rt.alloc(), 2) else {
+        assert!(rt; false, "room for two timers");
+        return;
+    };
+    timers.set(Attempt(1), Tick(3));
+    timers.set(Attempt(2), Tick(5));
+    timers.extend(Attempt(1), Tick(6));
+    timers.drop_timer(Attempt(2));
+    assert_eq!(rt; timers.due(Tick(5)), None);
+}
+
+// How many calls the list and the plain vector are compared over, and how many attempts these speak of.
+const CALLS: u16 = 10_000;
+
+const ATTEMPTS: usize = 1_024;
+
+// The next of a row of numbers below 2 ^ 31 - 1 without an order that shows (Park and Miller's, 1988, with the factor 48,271).
+fn next(seed: u64) -> u64
+    requires { seed < 2 ^ 31 }
+    ensures { result < 2 ^ 31 }
+{
+    seed * 48_271 % 2_147_483_647
+}
+
+// The first attempt that is due by a walk along the deadlines of all attempts, where 0 stands for no timer.
+fn first_in(deadlines: &[u64], now: u64) -> Option<Attempt> {
+    let mut least = None;
+    let mut first = now;
+    for n in 0..deadlines.len() {
+        let deadline = deadlines[n];
+        if deadline != 0 && deadline <= first && (least.is_none() || deadline < first) {
+            first = deadline;
+            least = Some(Attempt(n as u64));
+        }
+    }
+    least
+}
+
+// An attempt's timer starts anew.
+fn start(timers: &mut TimerList, n: u64, at: u64)
+    requires { length timers.old.timers < timers.old.most }
+    ensures count { length timers.new.timers ≤ length timers.old.timers + 1 }
+    ensures most { timers.new.most ≡ timers.old.most }
+{
+    timers.drop_timer(Attempt(n));
+    timers.set(Attempt(n), Tick(at));
+}
+
+// The attempt that is due, if one is, waits until `at` from then on.
+fn extend_due(timers: &mut TimerList, deadlines: &mut [u64], now: u64, at: u64)
+    ensures count { length timers.new.timers ≡ length timers.old.timers }
+    ensures most { timers.new.most ≡ timers.old.most }
+{
+    let Some(n) = timers.due(Tick(now)) else {
+        return;
+    };
+    timers.extend(n, Tick(at));
+    if let Some(deadline) = deadlines.get_mut(n.0 as usize) {
+        *deadline = at;
+    }
+}
+
+// Deadlines from 1 to 10,000 of 1,024 attempts, set, extended and dropped by chance: how many calls of `due` told what the
+// walk tells.
+fn alike(timers: &mut TimerList, deadlines: &mut [u64]) -> u16
+    requires none { length timers.old.timers ≡ 0 }
+    requires most { timers.old.most ≡ 10000 }
+    requires attempts { length deadlines.old ≡ 1024 }
+{
+    let mut seed = 1;
+    let mut count = 0;
+    for _ in 0..CALLS {
+        seed = next(seed);
+        let n = seed % 1_024;
+        let at = 1 + seed / 1_024 % 10_000;
+        start(timers, n, at);
+        deadlines[n as usize] = at;
+        seed = next(seed);
+        extend_due(timers, deadlines, seed % 10_000, 1 + seed / 1_024 % 10_000);
+        seed = next(seed);
+        timers.drop_timer(Attempt(seed % 1_024));
+        deadlines[(seed % 1_024) as usize] = 0;
+        if timers.due(Tick(at)) == first_in(deadlines, at) {
+            count += 1;
+        }
+    }
+    count
+}
+
+#[test]
+fn due_tells_what_a_walk_along_the_deadlines_tells(rt: HostRuntime) {
+    let Ok(mut timers) = TimerList::new(rt.alloc(), CALLS) else {
+        assert!(rt; false, "room for the timers");
+        return;
+    };
+    let Ok(mut deadlines) = vec![in rt.alloc(); 0; ATTEMPTS] else {
+        assert!(rt; false, "room for the deadlines");
+        return;
+    };
+    assert_eq!(rt; alike(&mut timers, &mut deadlines), CALLS);
 }

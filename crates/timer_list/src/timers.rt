@@ -1,6 +1,7 @@
-ghost use Rattle.std.specs.Prelude.{◌≡◌, ◌<◌, ◌+◌, ◌∷◌, ◌++◌, [], List, None, Some, length, if◌then◌else◌, IfOk, IsSome, is_some};
-ghost use Rattle.timer_list.specs.Timers.{Timer, deadline_of, Becomes, is_before, IsFirstDue, IsFirstOf};
+ghost use Rattle.std.specs.Prelude.{◌≡◌, ◌<◌, ◌+◌, [], None, Some, length, if◌then◌else◌, IfOk, IsSome, is_some};
+ghost use Rattle.timer_list.specs.Timers.{deadline_of, Becomes, IsFirstDue};
 
+use crate::rows::{find, first_by, place_by_deadline, place_by_number, put};
 use mid_base::{Attempt, NoMemory, Tick};
 use std::alloc::Global;
 use std::marker::Model;
@@ -9,19 +10,23 @@ use std::marker::Model;
 /// run, and how many may.
 #[derive(Drop)]
 pub struct TimerList {
-    timers: Vec<(Attempt, Tick)>,
+    // The timers by number, where an attempt's is found.
+    by_number: Vec<(Attempt, Tick)>,
+    // The same timers by deadline, and by number among equal ones: the first is due first.
+    by_deadline: Vec<(Attempt, Tick)>,
     most: u16,
 }
 
 impl Model for TimerList {
     ghost use Rattle.std.specs.Prelude.{◌≤◌, vec_len, vec_capacity};
-    ghost use Rattle.timer_list.specs.Timers.{Timers, Differ};
+    ghost use Rattle.timer_list.specs.Timers.{Timers};
+    ghost use Rattle.timer_list.specs.Orders.{AreKept};
 
     ghost Value = { Timers };
 
-    ghost view = { λ l. record { timers = l.timers.items; most = l.most } };
+    ghost view = { λ l. record { timers = l.by_deadline.items; most = l.most } };
 
-    ghost invariant = { λ l. (vec_len l.timers ≤ l.most) × (l.most ≤ vec_capacity l.timers) × Differ l.timers.items };
+    ghost invariant = { λ l. AreKept l.by_number.items l.by_deadline.items × (vec_len l.by_deadline ≤ l.most) × (l.most ≤ vec_capacity l.by_number) × (l.most ≤ vec_capacity l.by_deadline) };
 }
 
 impl TimerList {
@@ -30,10 +35,17 @@ impl TimerList {
         ensures timers { IfOk result (λ l. l.timers ≡ []) }
         ensures most { IfOk result (λ l. l.most ≡ most) }
     {
-        match Vec::with_capacity(alloc, usize::from(most)) {
-            Ok(timers) => Ok(TimerList { timers, most }),
-            Err(_) => Err(NoMemory),
-        }
+        let Ok(by_number) = Vec::with_capacity(alloc, usize::from(most)) else {
+            return Err(NoMemory);
+        };
+        let Ok(by_deadline) = Vec::with_capacity(alloc, usize::from(most)) else {
+            return Err(NoMemory);
+        };
+        Ok(TimerList {
+            by_number,
+            by_deadline,
+            most,
+        })
     }
 
     /// Starts the timer of an attempt that has none, with the deadline `at`. There has to be room for one more.
@@ -44,7 +56,11 @@ impl TimerList {
         ensures count { length self.new.timers ≡ length self.old.timers + 1 }
         ensures most { self.new.most ≡ self.old.most }
     {
-        self.timers.push_reserved((n, at));
+        let timer = (n, at);
+        let place = place_by_number(&self.by_number, timer);
+        put(&mut self.by_number, place, timer);
+        let place = place_by_deadline(&self.by_deadline, timer);
+        put(&mut self.by_deadline, place, timer);
     }
 
     /// Gives an attempt that has a timer the deadline `at` in place of its own.
@@ -66,7 +82,12 @@ impl TimerList {
         ensures room { IsSome (deadline_of n.0 self.old.timers) → length self.new.timers < self.new.most }
         ensures most { self.new.most ≡ self.old.most }
     {
-        self.timers.retain(|timer| timer.0 != n);
+        let Some(place) = find(&self.by_number, n) else {
+            return;
+        };
+        let timer = self.by_number.remove(place);
+        let place = place_by_deadline(&self.by_deadline, timer);
+        self.by_deadline.remove(place);
     }
 
     /// The attempt that is due first at the tick `now`: the one with the least deadline, and the least number among equal
@@ -74,40 +95,7 @@ impl TimerList {
     pub fn due(&self, now: Tick) -> Option<Attempt>
         ensures { IsFirstDue self.now.timers now.0 result }
     {
-        let first = first_of(&self.timers, now)?;
+        let first = first_by(&self.by_deadline, now)?;
         Some(first.0)
     }
-}
-
-fn first_of(timers: &Vec<(Attempt, Tick)>, now: Tick) -> Option<(Attempt, Tick)>
-    ensures { IsFirstOf timers.now.items now.0 result }
-{
-    let mut first = None;
-    for timer in timers {
-        first = earlier(first, *timer, now);
-    }
-    first
-}
-
-// The first of the timers seen so far and one more.
-fn earlier(
-    first: Option<(Attempt, Tick)>,
-    timer: (Attempt, Tick),
-    now: Tick,
-) -> Option<(Attempt, Tick)>
-    ensures { (seen : List Timer) → IsFirstOf seen now.0 first → IsFirstOf (seen ++ timer ∷ []) now.0 result }
-{
-    if timer.1 > now {
-        return first;
-    }
-    match first {
-        Some(known) if is_before(known, timer) => first,
-        _ => Some(timer),
-    }
-}
-
-fn is_before(one: (Attempt, Tick), other: (Attempt, Tick)) -> bool
-    ensures { result ≡ is_before one.0.0 one.1.0 other.0.0 other.1.0 }
-{
-    one.1.0 < other.1.0 || one.1.0 == other.1.0 && one.0.0 <= other.0.0
 }
