@@ -5,6 +5,7 @@ pub mod Offered
 pub mod Asked
 pub mod Groups
 pub mod Staged
+pub mod Holding
 pub mod Growing
 pub mod Acted
 pub mod Begins

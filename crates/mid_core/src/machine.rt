@@ -47,7 +47,7 @@ impl<A: HostTemplate> Model for Core<A> {
 
     ghost view = { λ c. record { spec = c.spec; before = c.before; journal = c.book.entries; tags = c.running.attempts.tags.items; spare = c.book.spare; lower = c.lower } };
 
-    ghost invariant = { λ c. IsCore A.stands c.spec c.before c.lower (reverse c.book.entries) c.running c.ladder c.probes.items };
+    ghost invariant = { λ c. IsCore A.stands A.means c.spec c.before c.lower (reverse c.book.entries) c.running c.ladder c.probes.items };
 }
 
 impl<A: HostTemplate> Booked for Core<A> {
@@ -161,7 +161,7 @@ impl<A: HostTemplate> Core<A> {
 
     /// Makes room for `entries` more entries. It changes nothing else, also where it fails.
     pub fn reserve(&mut self, entries: usize) -> Result<(), NoMemory>
-        ensures same { IsSame A.stands A.is_due self.old self.new }
+        ensures same { IsSame A.stands A.is_due A.means self.old self.new }
         ensures ok { OnOk result (entries ≤ self.new.spare) }
     {
         self.book.reserve(entries)
@@ -172,7 +172,7 @@ impl<A: HostTemplate> Core<A> {
     /// Done adds a group of entries that begins with an opener of the step. Skipped names the first condition of the step
     /// that fails. Where there is room for one entry, Own, Drop and Tick take no memory, and at most that one place.
     pub fn step(&mut self, s: Step) -> Result<Did, NoMemory>
-        ensures answer { Answers A.stands A.is_due self.old self.new s result }
+        ensures answer { Answers A.stands A.is_due A.means self.old self.new s result }
         ensures room { IsSpared s → 0 < self.old.spare → IsOk result × (self.old.spare ≤ self.new.spare + 1) }
         ensures legal { Legal self.new.spec self.new.journal }
         ensures stands { A.stands self.new.lower self.new.spec self.new.before (reverse self.new.journal) }
