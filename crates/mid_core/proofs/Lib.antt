@@ -10,3 +10,4 @@ pub mod Growing
 pub mod Acted
 pub mod Begins
 pub mod Flushed
+pub mod Earlier

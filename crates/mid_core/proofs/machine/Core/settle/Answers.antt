@@ -77,6 +77,7 @@ invariant_of-self-in-Some-Expired g c =
     let n = c.args.n in
     let laws = g.met.A.HostTemplate g.world.𝓛 g.world.𝓜 g.world.𝓡 ((λ s x. x), (λ x. x), (λ x. x), λ x. x) in
     let row = c.in-Some-Expired.row in
+    let m = g.A.HostTemplate.means c.self.inside.lower in
     let e = c.settle_expired-entry.result in
     let told = (rw c.in-Some-Expired.field-0-is at c.in-Some-Expired.ensures) spec P core.runs in
     let right = c.settle_expired-entry.ensures.entry P core.runs in
@@ -86,7 +87,7 @@ invariant_of-self-in-Some-Expired g c =
     (subst (λ (x : Entry). Keeps spec P (x ∷ [])) (sym right) (expired_keeps spec P row.command n calm))
     (group_expired spec P r core.runs n row told e right)
     (laws.silent c.self.inside.lower spec before P e (subst (λ (x : Entry). IsSilent spec x) (sym right) (expired_silent spec P row.command n)) core.stood)
-    (subst (λ (x : Entry). Does spec P (x ∷ []) _ _) (sym right) (expired_does spec P row.command n _))
+    (subst (λ (x : Entry). Does spec P (x ∷ []) m m) (sym right) (expired_does spec P row.command n m))
     (c.settle_expired-entry.ensures.runs P core.runs))
 
 pub returns-in_ok-reserve-in-Some-Expired : goal.returns-in_ok-reserve-in-Some-Expired
