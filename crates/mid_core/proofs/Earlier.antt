@@ -1,5 +1,5 @@
 -- Where a step adds a Sent, a lower layer that is honest and tells its attempts holds no earlier attempt of the command.
-use Rattle.std.proofs.Common.{◌≡◌, ◌∙◌, sym, ap, subst, refl, ℕ, ◌+◌, ◌≤◌, ◌==◌, Bool, true, false, cond, List, [], ◌∷◌, ◌++◌, length, length-append, reverse, Result, Ok, Err, ⊎_elim, arith}
+use Rattle.std.proofs.Common.{◌≡◌, ◌∙◌, sym, ap, subst, refl, ℕ, ◌+◌, ◌≤◌, ◌==◌, Bool, true, false, cond, List, [], ◌∷◌, ◌++◌, length, length-append, append_assoc, reverse, Result, Ok, Err, ⊎_elim, arith}
 use Rattle.std.specs.List.{list_all}
 use Rattle.std.proofs.lemmas.Bool.{and_parts, eq-eqb, eqb-true, false≢true}
 use Rattle.std.proofs.lemmas.Bool.Decides.{eqb_tells}
@@ -102,20 +102,20 @@ first_alone s P (Sent d m u ∷ y ∷ front) rest c n t opened added = absurd ad
 first_alone s P (e ∷ front) rest c n t opened added = absurd (false≢true opened)
 
 -- a journal that stays has nothing added
-longer : (J front rest : List Entry) (e : Entry) → J ≡ J ++ front ++ e ∷ rest → ⊥
-longer J front rest e same =
-    omega (arith, ap (λ (xs : List Entry). length xs) same, length-append J (front ++ e ∷ rest), length-append front (e ∷ rest))
+longer : (before front rest : List Entry) (e : Entry) → before ≡ before ++ front ++ e ∷ rest → ⊥
+longer before front rest e same =
+    omega (arith, ap (λ (xs : List Entry). length xs) same, length-append (before ++ front) (e ∷ rest), length-append before front)
 
 pub no_earlier : {A : Type 0} (stood : A → Standing) (due : A → ℕ → Bool) (means : A → Meaning) (old new : CoreView A) (x : Step) (r : Result Did NoMemory) → Legal old.spec old.journal
     → IsRight old.spec (reverse old.journal) (means old.lower) → IsRight new.spec (reverse new.journal) (means new.lower)
     → Answers stood due means old new x r → HoldsNoEarlier means old new
-no_earlier stood due means old new x (Ok (Skipped why)) legal right right' answer front rest c n t is =
+no_earlier stood due means old new x (Ok (Skipped why)) legal right right' answer front rest c n t is honest tells =
     absurd (longer old.journal front rest (Sent c n t) (sym (ap (λ (v : CoreView _). v.journal) answer.0) ∙ is))
-no_earlier stood due means old new x (Err e) legal right right' answer front rest c n t is =
+no_earlier stood due means old new x (Err e) legal right right' answer front rest c n t is honest tells =
     absurd (longer old.journal front rest (Sent c n t) (sym answer.journal ∙ is))
 no_earlier stood due means old new x (Ok Done) legal right right' answer front rest c n t is honest tells =
     let P = reverse old.journal in
-    let same : answer.group ≡ front ++ Sent c n t ∷ rest = append_cancel_left old.journal answer.group (front ++ Sent c n t ∷ rest) (sym answer.journal ∙ is) in
+    let same : answer.group ≡ front ++ Sent c n t ∷ rest = append_cancel_left old.journal answer.group (front ++ Sent c n t ∷ rest) (sym answer.journal ∙ is ∙ append_assoc old.journal front (Sent c n t ∷ rest)) in
     let send : x ≡ Send = is_send x c n t (has_it (may_enter x) front rest (Sent c n t) (subst (λ (g : List Entry). list_all (may_enter x) g ≡ true) same answer.enters)) in
     let opened : Opens old.spec P Send (front ++ Sent c n t ∷ rest) =
     subst (λ (y : Step). Opens old.spec P y (front ++ Sent c n t ∷ rest)) send (subst (λ (g : List Entry). Opens old.spec P x g) same answer.adds.opened)
@@ -124,7 +124,7 @@ no_earlier stood due means old new x (Ok Done) legal right right' answer front r
     let none : front ≡ [] = first_alone old.spec P front rest c n t opened whole in
     let added : IsAdded old.spec P (Sent c n t ∷ rest) = subst (λ (f : List Entry). IsAdded old.spec P (f ++ Sent c n t ∷ rest)) none whole in
     let grown : reverse new.journal ≡ onto (Sent c n t ∷ rest) P =
-    ap (λ (xs : List Entry). reverse xs) (is ∙ ap (λ (f : List Entry). old.journal ++ f ++ Sent c n t ∷ rest) none) ∙ reverse-append old.journal (Sent c n t ∷ rest) ∙ sym (onto-reverse (Sent c n t ∷ rest) P)
+    ap (λ (xs : List Entry). reverse xs) (answer.journal ∙ ap (λ (g : List Entry). old.journal ++ g) (same ∙ ap (λ (f : List Entry). f ++ Sent c n t ∷ rest) none)) ∙ reverse-append old.journal (Sent c n t ∷ rest) ∙ sym (onto-reverse (Sent c n t ∷ rest) P)
     in
     let held = right honest tells in
     let held' : HoldsRight old.spec (onto (Sent c n t ∷ rest) P) (means new.lower).holds =

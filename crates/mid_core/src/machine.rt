@@ -184,7 +184,19 @@ impl<A: HostTemplate> Core<A> {
         ensures earlier { HoldsNoEarlier A.means self.old self.new }
         ensures tags { self.new.tags ≡ tag_states self.new.spec (reverse self.new.journal) }
     {
-        let answer = match s {
+        // What holds of a core holds of what the step finds, and of what it leaves.
+        let _ = self.journal();
+        let answer = self.make(s);
+        let _ = self.journal();
+        let _ = self.tag_states();
+        answer
+    }
+
+    fn make(&mut self, s: Step) -> Result<Did, NoMemory>
+        ensures answer { Answers A.stands A.is_due A.means self.old self.new s result }
+        ensures room { IsSpared s → 0 < self.old.spare → IsOk result × (self.old.spare ≤ self.new.spare + 1) }
+    {
+        match s {
             Step::Submit(lane) => self.submit(lane),
             Step::Send => self.send(),
             Step::Work => self.work(),
@@ -199,11 +211,7 @@ impl<A: HostTemplate> Core<A> {
             Step::EhEnd => self.end_recovery(),
             Step::Tick => self.tick(),
             Step::SetState(dev, state) => self.set_state(dev, state),
-        };
-        // What holds of a core holds of what the step left.
-        let _ = self.journal();
-        let _ = self.tag_states();
-        answer
+        }
     }
 }
 
