@@ -11,16 +11,15 @@ use Rattle.mid_base.specs.declared.entries.Entry.TheVariants.{Sent, Bounced, Tol
 use Rattle.mid_base.specs.declared.host_spec.HostSpec.{HostSpec}
 use Rattle.mid_base.specs.declared.names.Attempt.{Attempt}
 use Rattle.mid_base.specs.declared.names.CmdId.{CmdId}
-use Rattle.mid_base.specs.declared.names.DevAddr.{DevAddr}
 use Rattle.mid_base.specs.declared.names.Tag.{Tag}
 use Rattle.mid_base.specs.declared.steps.Did.{Did}
 use Rattle.mid_base.specs.declared.steps.Did.TheVariants.{Done, Skipped}
 use Rattle.mid_base.specs.declared.steps.Step.{Step}
 use Rattle.mid_base.specs.declared.steps.Step.TheVariants.{Send}
 use Rattle.mid_base.specs.Past.{was_sent, sent_for}
-use Rattle.host_template.specs.Meaning.{Meaning, Holds, SameNature}
+use Rattle.host_template.specs.Meaning.{Meaning}
 use Rattle.host_template.specs.Standing.{Standing}
-use Rattle.trace_model.specs.declared.standing.Standing.TheVariants.{Waits, Busy}
+use Rattle.trace_model.specs.declared.standing.Standing.TheVariants.{Busy}
 use Rattle.trace_model.specs.Attempts.{sends}
 use Rattle.trace_model.specs.Commands.{standing, waits}
 use Rattle.trace_model.specs.Legal.{EachStands, Legal, onto}

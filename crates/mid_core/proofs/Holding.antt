@@ -1,5 +1,5 @@
 -- What a lower layer does with the attempts that it holds, as the journal of a core grows.
-use Rattle.std.proofs.Common.{◌≡◌, ◌∙◌, sym, subst, refl, ℕ, Bool, true, false, cond, List, [], ◌∷◌, Option}
+use Rattle.std.proofs.Common.{◌≡◌, ◌∙◌, subst, refl, ℕ, Bool, true, false, cond, List, [], ◌∷◌, Option}
 use Rattle.mid_base.specs.declared.answers.BusyOf.{BusyOf}
 use Rattle.mid_base.specs.declared.entries.Entry.{Entry}
 use Rattle.mid_base.specs.declared.entries.Entry.TheVariants as entry
@@ -10,7 +10,7 @@ use Rattle.mid_base.specs.declared.names.DevAddr.{DevAddr}
 use Rattle.mid_base.specs.declared.names.Tag.{Tag}
 use Rattle.host_template.specs.declared.queued.Queued.{Queued}
 use Rattle.host_template.specs.declared.queued.Queued.TheVariants.{Taken, HostBusy, DeviceBusy}
-use Rattle.host_template.specs.Meaning.{Meaning, Holds, SameNature, SameMeaning, IfHonest, NothingAdded, HonestQueue}
+use Rattle.host_template.specs.Meaning.{Meaning, SameNature, SameMeaning, IfHonest, NothingAdded, HonestQueue}
 use Rattle.trace_model.specs.Judging.{has_abort_left}
 use Rattle.trace_model.specs.Legal.{ByGroups, Group, onto}
 use Rattle.trace_model.specs.Names.{dev_of}

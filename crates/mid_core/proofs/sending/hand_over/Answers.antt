@@ -6,7 +6,7 @@ use Rattle.mid_base.specs.declared.host_spec.CmdSpec.{CmdSpec}
 use Rattle.mid_base.specs.declared.names.Attempt.{Attempt}
 use Rattle.host_state.specs.HostAgrees.{HostAgrees}
 use Rattle.mid_core.specs.Choices.{bounced}
-use Rattle.mid_core.proofs.Holding.{handed_honest, meanings, natures}
+use Rattle.mid_core.proofs.Holding.{handed_honest}
 use Rattle.mid_core.proofs.Known.{spec_within}
 use Rattle.mid_core.proofs.Offered.{can_send, still_picked, read_there, read_id, command_of, number_is, fits, queued_is}
 use Rattle.mid_core.proofs.sending.hand_over.Goals as goal
