@@ -9,6 +9,7 @@ use Rattle.mid_base.specs.declared.host_spec.HostSpec.{HostSpec}
 use Rattle.mid_base.specs.declared.steps.Step.TheVariants as step
 use Rattle.mid_base.specs.declared.steps.Did.{Did}
 use Rattle.mid_base.specs.declared.steps.Did.TheVariants.{Done, Skipped}
+use Rattle.host_template.specs.Meaning.{Meaning}
 use Rattle.host_template.specs.Standing.{Standing}
 use Rattle.trace_model.specs.Attempts.{attempts}
 use Rattle.trace_model.specs.Legal.{EachStands, Legal}
@@ -34,9 +35,9 @@ one_group old new (Told c a ∷ []) each opened added tags = tags
 one_group old new (Told c a ∷ e ∷ rest) each opened added tags = absurd added.1.0
 one_group old new (e ∷ rest) each opened added tags = absurd (false≢true opened)
 
-pub sends_one : {A : Type 0} (stands : A → Standing) (due : A → ℕ → Bool) (old new : CoreView A) (r : Result Did NoMemory) → Legal old.spec old.journal
-    → Answers stands due old new step.Send r → WhereDone r (SendsOne old new)
-sends_one stands due old new (Ok Done) legal a =
+pub sends_one : {A : Type 0} (stands : A → Standing) (due : A → ℕ → Bool) (means : A → Meaning) (old new : CoreView A) (r : Result Did NoMemory) → Legal old.spec old.journal
+    → Answers stands due means old new step.Send r → WhereDone r (SendsOne old new)
+sends_one stands due means old new (Ok Done) legal a =
     (a.group, a.journal, one_group old new a.group (by_places old.spec (reverse old.journal) legal).each a.adds.opened a.adds.added a.tags)
-sends_one stands due old new (Ok (Skipped why)) legal a = tt
-sends_one stands due old new (Err e) legal a = tt
+sends_one stands due means old new (Ok (Skipped why)) legal a = tt
+sends_one stands due means old new (Err e) legal a = tt

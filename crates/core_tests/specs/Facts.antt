@@ -6,11 +6,17 @@ use Rattle.mid_base.specs.declared.answers.TagState.TheVariants.{Free, Armed, Ow
 use Rattle.mid_base.specs.declared.entries.Entry.{Entry}
 use Rattle.mid_base.specs.declared.entries.Entry.TheVariants.{Sent, Bounced, Told}
 use Rattle.mid_base.specs.declared.names.Attempt.{Attempt}
+use Rattle.mid_base.specs.declared.names.CmdId.{CmdId}
+use Rattle.mid_base.specs.declared.names.Tag.{Tag}
 use Rattle.mid_base.specs.declared.steps.Step.{Step}
 use Rattle.mid_base.specs.declared.steps.Step.TheVariants.{Submit, Work, Due, Drop, Abort, EhBegin, EhAct, EhFlush, EhEnd, Tick, SetState}
 use Rattle.mid_base.specs.declared.steps.Did.{Did}
 use Rattle.mid_base.specs.declared.steps.Did.TheVariants.{Done}
+use Rattle.debug_adapter.specs.declared.adapter.DebugAdapter.{DebugAdapter}
+use Rattle.debug_adapter.specs.Means.{means_of}
 use Rattle.trace_model.specs.Attempts.{attempts}
+use Rattle.trace_model.specs.Legal.{onto}
+use Rattle.held_laws.specs.Held.{NoneHeld}
 use Rattle.mid_core.specs.View.{CoreView}
 
 -- this holds where the step was made
@@ -65,3 +71,9 @@ MovesNoTag EhEnd = Unit {0}
 MovesNoTag Tick = Unit {0}
 MovesNoTag (SetState dev state) = Unit {0}
 MovesNoTag step = ⊥
+
+-- at each Sent that was added, the adapter holds none of the command's attempts that were sent before
+abbrev pub HeldNoEarlier : CoreView DebugAdapter → CoreView DebugAdapter → Type 0
+HeldNoEarlier old new =
+    (front rest : List Entry) (c : CmdId) (n : Attempt) (t : Tag) → new.journal ≡ old.journal ++ front ++ Sent c n t ∷ rest
+    → NoneHeld (onto front (reverse old.journal)) c.0 (means_of new.lower.held).holds

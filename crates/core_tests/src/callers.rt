@@ -1,5 +1,6 @@
-ghost use Rattle.core_tests.specs.Facts.{WhereDone, Grows, Owns, Frees, SendsOne, KeepsTags, MovesNoTag};
+ghost use Rattle.core_tests.specs.Facts.{WhereDone, Grows, HeldNoEarlier, Owns, Frees, SendsOne, KeepsTags, MovesNoTag};
 
+use debug_adapter::DebugAdapter;
 use host_template::HostTemplate;
 use mid_base::{Attempt, By, Did, NoMemory, Step};
 use mid_core::Core;
@@ -40,4 +41,12 @@ pub fn made_no_tag_step<A: HostTemplate>(core: &mut Core<A>, step: Step) -> Resu
     ensures tags { KeepsTags core.old core.new }
 {
     core.step(step)
+}
+
+/// Makes a step over the simulated adapter, which is honest. At each Sent that was added it holds no earlier attempt of the
+/// command.
+pub fn made_simulated_step(core: &mut Core<DebugAdapter>, next: Step) -> Result<Did, NoMemory>
+    ensures { HeldNoEarlier core.old core.new }
+{
+    core.step(next)
 }

@@ -1,5 +1,5 @@
 -- What an act of recovery adds to the journal, entry by entry, and what the core owes for it.
-use Rattle.std.proofs.Common.{◌≡◌, ◌∙◌, ◌<◌, ◌≤◌, ◌+◌, ap, sym, subst, refl, ℕ, Bool, true, false, List, [], ◌∷◌, ◌++◌, reverse, length, length-append, length-drop, length-take, get_or, take, drop, append_assoc, None, Some, arith}
+use Rattle.std.proofs.Common.{◌≡◌, ◌∙◌, ◌<◌, ◌≤◌, ◌+◌, ap, sym, subst, refl, ℕ, Bool, true, false, List, [], ◌∷◌, ◌++◌, reverse, length, length-append, length-drop, length-take, get_or, take, drop, append_assoc, filter, None, Some, arith}
 use Rattle.std.specs.List.{list_all}
 use Rattle.std.proofs.lemmas.List.{take_more, drop_more, reverse-append}
 use Rattle.mid_base.specs.declared.answers.Scope.{Scope}
@@ -7,8 +7,11 @@ use Rattle.mid_base.specs.declared.entries.Entry.{Entry}
 use Rattle.mid_base.specs.declared.entries.Entry.TheVariants as entry
 use Rattle.mid_base.specs.declared.host_spec.HostSpec.{HostSpec}
 use Rattle.mid_base.specs.declared.steps.Step.TheVariants as step
+use Rattle.mid_base.specs.Levels.{level_of}
 use Rattle.mid_base.specs.Limits.{KeepsLimits}
 use Rattle.disposition.specs.declared.todo.Todo.{Todo}
+use Rattle.disposition.specs.Ladder.{is_in_scope}
+use Rattle.host_template.specs.Meaning.{Meaning, SameNature, IfHonest}
 use Rattle.host_template.specs.Standing.{Before, Standing}
 use Rattle.trace_model.specs.Climb.{climb}
 use Rattle.trace_model.specs.Course.{Follows}
@@ -21,7 +24,7 @@ use Rattle.trace_model.proofs.Readings.{onto_more}
 use Rattle.verdict_table.specs.Taken.{Takes, AreTaken}
 use Rattle.host_state.specs.declared.running.Running.{Running}
 use Rattle.host_state.specs.HostAgrees.{HostAgrees}
-use Rattle.escalation.specs.Climbing.{Climb, IsNextAct, StandsActed, gone_on}
+use Rattle.escalation.specs.Climbing.{Climb, IsNextAct, StandsActed, HonestAct, gone_on}
 use Rattle.climb_laws.specs.LadderOf.{LeadTo}
 use Rattle.climb_laws.proofs.Acts.{leads_on, some_left}
 use Rattle.climb_laws.proofs.Lasts.{left_last}
@@ -30,6 +33,7 @@ use Rattle.recovery_laws.proofs.Courses.{act_taken}
 use Rattle.recovery_laws.proofs.Quiet.{still}
 use Rattle.mid_core.specs.Steps.{AddsTo, Opens, may_enter}
 use Rattle.mid_core.specs.View.{IsCore, IsStaged}
+use Rattle.mid_core.proofs.Holding.{Does}
 use Rattle.mid_core.proofs.Growing.{core_recovers}
 use Rattle.mid_core.proofs.Staged.{each_of}
 
@@ -112,12 +116,21 @@ module _ (s : HostSpec) (P : List Entry) (each : EachStands s P) (k : Climb) (st
   pub acts_enter : KeepsLimits s → list_all (may_enter step.EhAct) es ≡ true
   acts_enter limits = taken_enters s P es (acts_taken limits)
 
+-- an honest lower layer lets go what the act says
+act_does : (s : HostSpec) (P : List Entry) (k : Climb) → IsStaged s P (Some k) → (level : ℕ) (scope : Scope) (ok : Bool) (es : List Entry) → IsNextAct k level scope ok es → (old new : Meaning)
+    → SameNature old new → IfHonest (HonestAct (level_of level) scope ok (filter (is_in_scope scope) k.left)) old new → Does s P es old new
+act_does s P k stage level scope ok es act old new nature did =
+    subst (λ (xs : List Entry). Does s P xs old new) (sym act.told)
+    (nature, subst (λ (xs : List Todo). IfHonest (HonestAct (level_of level) scope ok (filter (is_in_scope scope) xs)) old new) stage.1.left did)
+
 -- a core goes on by the next act of its ladder
-pub core_acts : {A : Type 0} (stands : A → Standing) (spec : HostSpec) (before : Before) (lower later : A) (P : List Entry) (r new : Running) (k : Climb) (probes bytes : List ℕ) (level : ℕ) (scope : Scope) (ok : Bool) (es : List Entry)
-    → IsCore stands spec before lower P r (Some k) probes → IsNextAct k level scope ok es → StandsActed k.handlers k.left (stands lower) (stands later) es
-    → HostAgrees spec (onto es P) new → 2056 ≤ length bytes → IsCore stands spec before later (onto es P) new (Some (gone_on (level, scope) es k)) bytes
-core_acts stands spec before lower later P r new k probes bytes level scope ok es core act acted runs buffer =
+pub core_acts : {A : Type 0} (stands : A → Standing) (means : A → Meaning) (spec : HostSpec) (before : Before) (lower later : A) (P : List Entry) (r new : Running) (k : Climb) (probes bytes : List ℕ) (level : ℕ) (scope : Scope) (ok : Bool) (es : List Entry)
+    → IsCore stands means spec before lower P r (Some k) probes → IsNextAct k level scope ok es → StandsActed k.handlers k.left (stands lower) (stands later) es
+    → SameNature (means lower) (means later) → IfHonest (HonestAct (level_of level) scope ok (filter (is_in_scope scope) k.left)) (means lower) (means later)
+    → HostAgrees spec (onto es P) new → 2056 ≤ length bytes → IsCore stands means spec before later (onto es P) new (Some (gone_on (level, scope) es k)) bytes
+core_acts stands means spec before lower later P r new k probes bytes level scope ok es core act acted nature did runs buffer =
     let each = each_of spec P core.legal in
     let to = leads spec P each k core.stage level scope ok es act in
-    core_recovers stands spec before lower later P es r new (Some k) (Some (gone_on (level, scope) es k)) probes bytes core to.group
-    (acted spec before P (sym core.stage.1.handlers) (left_last spec P k each core.stage.1) core.stood) runs (to.begun, to.ladder) buffer
+    core_recovers stands means spec before lower later P es r new (Some k) (Some (gone_on (level, scope) es k)) probes bytes core to.group
+    (acted spec before P (sym core.stage.1.handlers) (left_last spec P k each core.stage.1) core.stood)
+    (act_does spec P k core.stage level scope ok es act (means lower) (means later) nature did) runs (to.begun, to.ladder) buffer

@@ -20,6 +20,7 @@ use Rattle.done_flush.specs.Verdict.{flush, told}
 use Rattle.done_flush.specs.declared.flush.Flush.{Flush}
 use Rattle.done_flush.specs.declared.flush.Flush.TheVariants as flushes
 use Rattle.host_template.specs.Laws.{IsSilent}
+use Rattle.host_template.specs.Meaning.{Meaning}
 use Rattle.trace_model.specs.declared.standing.Standing.TheVariants.{Busy}
 use Rattle.trace_model.specs.Claims.{tag_for}
 use Rattle.trace_model.specs.Commands.{standing, is_failed, retries}
@@ -53,6 +54,7 @@ use Rattle.host_state.specs.Recovers.{IsFailedWith, IsFailedRow}
 use Rattle.mid_core.specs.Recovering.{entry_of, flushed_entry}
 use Rattle.mid_core.specs.Steps.{may_enter}
 use Rattle.mid_core.specs.View.{IsStaged}
+use Rattle.mid_core.proofs.Holding.{Does, idle}
 use Rattle.mid_core.proofs.Judged.{has_retries, id_there, named, counted}
 use Rattle.mid_core.proofs.Known.{state_there}
 use Rattle.mid_core.proofs.Staged.{Keeps}
@@ -194,6 +196,7 @@ pub record IsFlushing (s : HostSpec) (P : List Entry) (e : Entry) : Type 0 where
   pub added : IsAdded s P (e ∷ [])
   pub opened : opens s P step.EhFlush e ≡ true
   pub silent : IsSilent s e
+  pub does : (m : Meaning) → Does s P (e ∷ []) m m
   pub enters : list_all (may_enter step.EhFlush) (e ∷ []) ≡ true
   pub keeps : Keeps s P (e ∷ [])
 
@@ -220,6 +223,7 @@ module _ (s : HostSpec) (P : List Entry) (each : EachStands s P) (begins : has_b
     added = (rw (is_first, saved) refl, tt);
     opened = refl;
     silent = tt;
+    does = idle;
     enters = refl;
     keeps = (refl, λ k begun ladder. again s P k it.failure.cmd true none ladder);
   }
@@ -228,6 +232,7 @@ module _ (s : HostSpec) (P : List Entry) (each : EachStands s P) (begins : has_b
     added = (told_its_answer saved, tt);
     opened = is_first;
     silent = tt;
+    does = idle;
     enters = refl;
     keeps = (refl, λ k begun ladder. told_keeps s P k it.failure.cmd (told (last_answer P it.failure)) none ladder);
   }

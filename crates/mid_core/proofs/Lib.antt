@@ -5,7 +5,9 @@ pub mod Offered
 pub mod Asked
 pub mod Groups
 pub mod Staged
+pub mod Holding
 pub mod Growing
 pub mod Acted
 pub mod Begins
 pub mod Flushed
+pub mod Earlier

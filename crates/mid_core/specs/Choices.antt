@@ -1,5 +1,5 @@
 -- What a step is to do, as the running state says it, and what came of it. P has the newest entry first.
-use Rattle.std.specs.Prelude.{◌≡◌, ◌<◌, ◌^◌, ◌+◌, ◌-◌, ℕ, Bool, true, false, List, ◌∷◌, Option, None, Some, Result, Ok, Err, if◌then◌else◌, length, slice_get, slice_set}
+use Rattle.std.specs.Prelude.{◌≡◌, ◌<◌, ◌^◌, ◌+◌, ◌-◌, ℕ, Bool, true, false, List, [], ◌∷◌, Option, None, Some, Result, Ok, Err, if◌then◌else◌, length, slice_get, slice_set}
 use Rattle.mid_base.specs.declared.answers.Answer.{Answer}
 use Rattle.mid_base.specs.declared.answers.BusyOf.{BusyOf}
 use Rattle.mid_base.specs.declared.answers.BusyOf.TheVariants as of
@@ -88,6 +88,14 @@ bounced c n (Some why) P = entry.Bounced c n why ∷ P
 
 abbrev pub handed : Handed → List Entry → List Entry
 handed h P = bounced h.id h.attempt h.busy (entry.Sent h.id h.attempt h.tag ∷ P)
+
+-- the same as a group
+abbrev pub turned_away : CmdId → Attempt → Option BusyOf → List Entry
+turned_away c n None = []
+turned_away c n (Some why) = entry.Bounced c n why ∷ []
+
+abbrev pub handed_group : Handed → List Entry
+handed_group h = entry.Sent h.id h.attempt h.tag ∷ turned_away h.id h.attempt h.busy
 
 -- the command at the place was handed over, with the next number and the least free tag
 pub record IsHanded (s : HostSpec) (P : List Entry) (new : Running) (i : ℕ) (h : Handed) : Type 0 where

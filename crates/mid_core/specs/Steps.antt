@@ -8,6 +8,9 @@ use Rattle.mid_base.specs.declared.answers.TagState.TheVariants as tag
 use Rattle.mid_base.specs.declared.entries.Entry.{Entry}
 use Rattle.mid_base.specs.declared.entries.Entry.TheVariants as entry
 use Rattle.mid_base.specs.declared.host_spec.HostSpec.{HostSpec}
+use Rattle.mid_base.specs.declared.names.Attempt.{Attempt}
+use Rattle.mid_base.specs.declared.names.CmdId.{CmdId}
+use Rattle.mid_base.specs.declared.names.Tag.{Tag}
 use Rattle.mid_base.specs.declared.steps.Step.{Step}
 use Rattle.mid_base.specs.declared.steps.Step.TheVariants as step
 use Rattle.mid_base.specs.declared.steps.Did.{Did}
@@ -15,8 +18,11 @@ use Rattle.mid_base.specs.declared.steps.Did.TheVariants.{Done, Skipped}
 use Rattle.mid_base.specs.Address.{same_dev}
 use Rattle.mid_base.specs.Past.{ticks}
 use Rattle.device_states.specs.States.{same_state}
+use Rattle.host_template.specs.Meaning.{Meaning, SameNature, SameMeaning, IfHonest}
 use Rattle.host_template.specs.Standing.{Standing, Unchanged}
+use Rattle.trace_model.specs.Legal.{onto}
 use Rattle.trace_model.specs.Steps.{opens, same_owner, IsAdded, barred}
+use Rattle.held_laws.specs.Held.{NoneHeld}
 use Rattle.mid_core.specs.View.{CoreView}
 
 -- the list begins with an opener of the step
@@ -76,7 +82,7 @@ ChangesTags (step.Own n by) g old new = (t : ℕ) × (slice_get old t ≡ Some (
 ChangesTags (step.Settle n) g old new = (t : ℕ) × (by : By) × (slice_get old t ≡ Some (tag.Owned n by)) × (new ≡ slice_set old t tag.Free)
 ChangesTags s g old new = new ≡ old
 
-pub record Adds {A : Type 0} (due : A → ℕ → Bool) (old new : CoreView A) (s : Step) : Type 0 where
+pub record Adds {A : Type 0} (due : A → ℕ → Bool) (means : A → Meaning) (old new : CoreView A) (s : Step) : Type 0 where
   pub spec : new.spec ≡ old.spec
   pub before : new.before ≡ old.before
   pub group : List Entry
@@ -84,19 +90,28 @@ pub record Adds {A : Type 0} (due : A → ℕ → Bool) (old new : CoreView A) (
   pub adds : AddsTo old.spec (due old.lower (ticks (reverse old.journal))) (reverse old.journal) s group
   pub enters : list_all (may_enter s) group ≡ true
   pub tags : ChangesTags s group old.tags new.tags
+  pub nature : SameNature (means old.lower) (means new.lower)
 
 -- nothing has changed, but that there may be more room
-pub record IsSame {A : Type 0} (stands : A → Standing) (due : A → ℕ → Bool) (old new : CoreView A) : Type 0 where
+pub record IsSame {A : Type 0} (stands : A → Standing) (due : A → ℕ → Bool) (means : A → Meaning) (old new : CoreView A) : Type 0 where
   pub spec : new.spec ≡ old.spec
   pub before : new.before ≡ old.before
   pub journal : new.journal ≡ old.journal
   pub tags : new.tags ≡ old.tags
   pub spare : old.spare ≤ new.spare
   pub lower : Unchanged (stands old.lower) (stands new.lower) (due old.lower) (due new.lower)
+  pub meaning : SameMeaning (means old.lower) (means new.lower)
 
 -- Done adds a group. Skipped comes exactly where a condition of the step fails, with the first one that does, and changes
 -- nothing; so does want of memory.
-abbrev pub Answers : {A : Type 0} → (A → Standing) → (A → ℕ → Bool) → CoreView A → CoreView A → Step → Result Did NoMemory → Type 0
-Answers stands due old new s (Ok Done) = Adds due old new s
-Answers stands due old new s (Ok (Skipped why)) = (new ≡ old) × (barred old.spec (due old.lower (ticks (reverse old.journal))) (reverse old.journal) s ≡ Some why)
-Answers stands due old new s (Err e) = IsSame stands due old new
+abbrev pub Answers : {A : Type 0} → (A → Standing) → (A → ℕ → Bool) → (A → Meaning) → CoreView A → CoreView A → Step → Result Did NoMemory → Type 0
+Answers stands due means old new s (Ok Done) = Adds due means old new s
+Answers stands due means old new s (Ok (Skipped why)) = (new ≡ old) × (barred old.spec (due old.lower (ticks (reverse old.journal))) (reverse old.journal) s ≡ Some why)
+Answers stands due means old new s (Err e) = IsSame stands due means old new
+
+-- at each Sent that a step added, a lower layer that is honest and tells its attempts holds none of the command's attempts
+-- that were sent before: neither before the step nor after it
+abbrev pub HoldsNoEarlier : {A : Type 0} → (A → Meaning) → CoreView A → CoreView A → Type 0
+HoldsNoEarlier means old new =
+    (front rest : List Entry) (c : CmdId) (n : Attempt) (t : Tag) → new.journal ≡ old.journal ++ front ++ entry.Sent c n t ∷ rest
+    → IfHonest (λ x y. NoneHeld (onto front (reverse old.journal)) c.0 x.holds × NoneHeld (onto front (reverse old.journal)) c.0 y.holds) (means old.lower) (means new.lower)

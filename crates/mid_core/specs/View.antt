@@ -5,11 +5,13 @@ use Rattle.mid_base.specs.declared.entries.Entry.{Entry}
 use Rattle.mid_base.specs.declared.host_spec.HostSpec.{HostSpec}
 use Rattle.mid_base.specs.declared.steps.Step.{Step}
 use Rattle.mid_base.specs.declared.steps.Step.TheVariants as step
+use Rattle.host_template.specs.Meaning.{Meaning}
 use Rattle.host_template.specs.Standing.{Before, Standing}
 use Rattle.trace_model.specs.Devices.{has_begun}
 use Rattle.trace_model.specs.Legal.{ByGroups}
 use Rattle.escalation.specs.Climbing.{Climb}
 use Rattle.climb_laws.specs.LadderOf.{IsLadderOf}
+use Rattle.held_laws.specs.Held.{IsRight}
 use Rattle.host_state.specs.declared.running.Running.{Running}
 use Rattle.host_state.specs.HostAgrees.{HostAgrees}
 
@@ -29,10 +31,11 @@ IsStaged s P None = has_begun P ≡ false
 IsStaged s P (Some k) = (has_begun P ≡ true) × IsLadderOf s P k
 
 -- P is the journal, the newest entry first; the ladder is that of recovery, and probes the bytes that its probes are read into
-pub record IsCore {A : Type 0} (stands : A → Standing) (spec : HostSpec) (before : Before) (lower : A) (P : List Entry) (running : Running)
-    (ladder : Option Climb) (probes : List ℕ) : Type 0 where
+pub record IsCore {A : Type 0} (stands : A → Standing) (means : A → Meaning) (spec : HostSpec) (before : Before) (lower : A) (P : List Entry)
+    (running : Running) (ladder : Option Climb) (probes : List ℕ) : Type 0 where
   pub legal : ByGroups spec P
   pub stood : stands lower spec before P
+  pub right : IsRight spec P (means lower)
   pub runs : HostAgrees spec P running
   pub stage : IsStaged spec P ladder
   pub buffer : 2056 ≤ length probes

@@ -3,8 +3,10 @@ ghost use Rattle.mid_base.specs.declared.entries.Entry.{Entry as EntrySeen};
 ghost use Rattle.mid_base.specs.declared.entries.Entry.TheVariants as entries;
 ghost use Rattle.mid_base.specs.declared.steps.Step.TheVariants as steps;
 ghost use Rattle.mid_base.specs.Levels.{abort as abort_level, calls};
+ghost use Rattle.host_template.specs.Meaning.{SameNature, IfHonest};
 ghost use Rattle.host_template.specs.Standing.{Before};
 ghost use Rattle.host_state.specs.HostAgrees.{HostAgrees, IsFirstAbort};
+ghost use Rattle.held_laws.specs.Steps.{HonestOpener};
 ghost use Rattle.mid_core.specs.Choices.{IsRunning, after_abort};
 
 use crate::Core;
@@ -20,7 +22,7 @@ impl<A: HostTemplate> Core<A> {
 
     // The abort that was scheduled first is tried (`scsi_eh.rst`, "Asynchronous command aborts").
     pub(crate) fn abort(&mut self) -> Result<Did, NoMemory>
-        ensures { Answers A.stands A.is_due self.old self.new steps.Abort result }
+        ensures { Answers A.stands A.is_due A.means self.old self.new steps.Abort result }
     {
         let Some(first) = self.running.first_abort() else {
             return Ok(Did::Skipped(Why::NoAbort));
@@ -48,6 +50,8 @@ fn try_abort<A: HostTemplate>(
     requires first { IsFirstAbort running.now n row }
     ensures calls { result ≡ true → calls spec.now.handlers abort_level ≡ true }
     ensures stands { (P : List EntrySeen) (b : Before) → HostAgrees spec.now P running.now → A.stands lower.old spec.now b P → A.stands lower.new spec.now b (entries.Aborted row.command n result ∷ P) }
+    ensures nature { SameNature (A.means lower.old) (A.means lower.new) }
+    ensures honest { (P : List EntrySeen) → IfHonest (HonestOpener spec.now P (entries.Aborted row.command n result)) (A.means lower.old) (A.means lower.new) }
 {
     if !can_abort(spec.handlers) {
         return false;

@@ -12,7 +12,7 @@ impl<A: HostTemplate> Core<A> {
 
     // Recovery acts once (`scsi_eh.rst`, "scsi_unjam_host").
     pub(crate) fn act(&mut self) -> Result<Did, NoMemory>
-        ensures { Answers A.stands A.is_due self.old self.new steps.EhAct result }
+        ensures { Answers A.stands A.is_due A.means self.old self.new steps.EhAct result }
     {
         let Some(ladder) = &mut self.ladder else {
             return Ok(Did::Skipped(Why::EhIdle));

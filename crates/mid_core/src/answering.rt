@@ -11,7 +11,7 @@ impl<A: HostTemplate> Core<A> {
     ghost use Rattle.mid_core.specs.Steps.{Answers};
 
     pub(crate) fn work(&mut self) -> Result<Did, NoMemory>
-        ensures { Answers A.stands A.is_due self.old self.new steps.Work result }
+        ensures { Answers A.stands A.is_due A.means self.old self.new steps.Work result }
     {
         let now = self.running.now();
         if !self.lower.due(now) {
@@ -31,7 +31,7 @@ impl<A: HostTemplate> Core<A> {
 
     // An open attempt comes to belong to its answer, or to its expired timer.
     pub(crate) fn own(&mut self, n: Attempt, by: By) -> Result<Did, NoMemory>
-        ensures answer { Answers A.stands A.is_due self.old self.new (steps.Own n by) result }
+        ensures answer { Answers A.stands A.is_due A.means self.old self.new (steps.Own n by) result }
         ensures room { 0 < self.old.spare → IsOk result × (self.old.spare ≤ self.new.spare + 1) }
     {
         let Some(row) = self.running.attempt(n) else {
@@ -51,7 +51,7 @@ impl<A: HostTemplate> Core<A> {
 
     // One answer that is to be ignored is ignored.
     pub(crate) fn drop_late(&mut self, n: Attempt) -> Result<Did, NoMemory>
-        ensures answer { Answers A.stands A.is_due self.old self.new (steps.Drop n) result }
+        ensures answer { Answers A.stands A.is_due A.means self.old self.new (steps.Drop n) result }
         ensures room { 0 < self.old.spare → IsOk result × (self.old.spare ≤ self.new.spare + 1) }
     {
         if !self.running.is_late(n) {

@@ -2,6 +2,7 @@ ghost use Rattle.std.specs.Prelude.{◌≡◌, List, ◌∷◌};
 ghost use Rattle.mid_base.specs.declared.entries.Entry.{Entry as EntrySeen};
 ghost use Rattle.mid_base.specs.declared.steps.Step.TheVariants as steps;
 ghost use Rattle.attempt_table.specs.AttemptsAgree.{HasRoom};
+ghost use Rattle.host_template.specs.Meaning.{SameNature, IfHonest, NothingAdded};
 ghost use Rattle.host_template.specs.Standing.{Before};
 ghost use Rattle.host_state.specs.HostAgrees.{HostAgrees, IsAsked};
 ghost use Rattle.mid_core.specs.Choices.{IsRunning, IsSaidOf};
@@ -16,7 +17,7 @@ impl<A: HostTemplate> Core<A> {
 
     // The lower layer is asked about the attempt whose time is up.
     pub(crate) fn due(&mut self) -> Result<Did, NoMemory>
-        ensures { Answers A.stands A.is_due self.old self.new steps.Due result }
+        ensures { Answers A.stands A.is_due A.means self.old self.new steps.Due result }
     {
         let Some(n) = self.running.overdue() else {
             return Ok(Did::Skipped(Why::NoDue));
@@ -38,6 +39,8 @@ fn ask<A: HostTemplate>(spec: &HostSpec, lower: &mut A, running: &mut Running, n
     ensures said { IsSaidOf n result }
     ensures runs { (P : List EntrySeen) → HostAgrees spec.now P running.old → HostAgrees spec.now (result ∷ P) running.new }
     ensures stands { (P : List EntrySeen) (b : Before) → HostAgrees spec.now P running.old → A.stands lower.old spec.now b P → A.stands lower.new spec.now b (result ∷ P) }
+    ensures nature { SameNature (A.means lower.old) (A.means lower.new) }
+    ensures honest { IfHonest NothingAdded (A.means lower.old) (A.means lower.new) }
     ensures shown { running.new.attempts.tags.items ≡ running.old.attempts.tags.items }
 {
     let Some(row) = running.attempt(n) else {

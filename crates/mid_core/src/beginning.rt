@@ -25,7 +25,7 @@ impl<A: HostTemplate> Core<A> {
     // Recovery begins: the failed commands whose device isn't online are cleared, and the ladder has the others before it
     // (`scsi_eh.rst`, "How SCSI EH takes over").
     pub(crate) fn begin_recovery(&mut self) -> Result<Did, NoMemory>
-        ensures { Answers A.stands A.is_due self.old self.new steps.EhBegin result }
+        ensures { Answers A.stands A.is_due A.means self.old self.new steps.EhBegin result }
     {
         if self.ladder.is_some() {
             return Ok(Did::Skipped(Why::EhRunning));

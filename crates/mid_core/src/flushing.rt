@@ -16,7 +16,7 @@ impl<A: HostTemplate> Core<A> {
 
     // The command that failed first waits again, or is reported (`scsi_eh.rst`, "scsi_eh_flush_done_q").
     pub(crate) fn flush(&mut self) -> Result<Did, NoMemory>
-        ensures { Answers A.stands A.is_due self.old self.new steps.EhFlush result }
+        ensures { Answers A.stands A.is_due A.means self.old self.new steps.EhFlush result }
     {
         let Some(ladder) = &self.ladder else {
             return Ok(Did::Skipped(Why::EhIdle));
@@ -35,7 +35,7 @@ impl<A: HostTemplate> Core<A> {
 
     // Recovery ends.
     pub(crate) fn end_recovery(&mut self) -> Result<Did, NoMemory>
-        ensures { Answers A.stands A.is_due self.old self.new steps.EhEnd result }
+        ensures { Answers A.stands A.is_due A.means self.old self.new steps.EhEnd result }
     {
         let Some(ladder) = &self.ladder else {
             return Ok(Did::Skipped(Why::EhIdle));

@@ -12,7 +12,7 @@ impl<A: HostTemplate> Core<A> {
 
     // The next command of a lane is taken, or reported where its device is on its way out.
     pub(crate) fn submit(&mut self, lane: LaneNo) -> Result<Did, NoMemory>
-        ensures { Answers A.stands A.is_due self.old self.new (steps.Submit lane) result }
+        ensures { Answers A.stands A.is_due A.means self.old self.new (steps.Submit lane) result }
     {
         match next_handing(&self.running, lane) {
             Err(why) => Ok(Did::Skipped(why)),

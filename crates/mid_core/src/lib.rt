@@ -1,7 +1,8 @@
 //! The core of a host: it takes commands, hands them to a lower layer, and settles what comes back, one step at a time.
 //!
 //! Whatever steps are made, in whatever order and over whatever lower layer, the journal stays legal and the lower layer
-//! stands where the journal leaves it.
+//! stands where the journal leaves it. One that is honest, and tells the attempts that it holds, holds no earlier attempt of a
+//! command that is sent.
 //!
 //! A step finds out by the running state whether it is enabled and what it is to do (`choosing`, `judging`, `expiring`); then it
 //! takes all its room, and from there on it can't fail.

@@ -3,6 +3,7 @@ ghost use Rattle.mid_base.specs.Address.{has_dev};
 ghost use Rattle.mid_base.specs.Limits.{KeepsLimits};
 ghost use Rattle.attempt_table.specs.Claims.{IsNextOwned};
 ghost use Rattle.host_state.specs.HostAgrees.{HaveTags};
+ghost use Rattle.held_laws.specs.Held.{IsRight};
 ghost use Rattle.trace_model.specs.Attempts.{sends};
 ghost use Rattle.trace_model.specs.Devices.{state};
 ghost use Rattle.trace_model.specs.Drained.{Drained};
@@ -47,7 +48,7 @@ impl<A: HostTemplate> Model for Core<A> {
 
     ghost view = { λ c. record { spec = c.spec; before = c.before; journal = c.book.entries; tags = c.running.attempts.tags.items; spare = c.book.spare; lower = c.lower } };
 
-    ghost invariant = { λ c. IsCore A.stands c.spec c.before c.lower (reverse c.book.entries) c.running c.ladder c.probes.items };
+    ghost invariant = { λ c. IsCore A.stands A.means c.spec c.before c.lower (reverse c.book.entries) c.running c.ladder c.probes.items };
 }
 
 impl<A: HostTemplate> Booked for Core<A> {
@@ -62,7 +63,7 @@ impl<A: HostTemplate> Booked for Core<A> {
 
 impl<A: HostTemplate> Core<A> {
     ghost use Rattle.mid_core.specs.View.{IsSpared};
-    ghost use Rattle.mid_core.specs.Steps.{Answers, IsSame};
+    ghost use Rattle.mid_core.specs.Steps.{Answers, IsSame, HoldsNoEarlier};
 
     /// A core whose journal is empty, for a spec within the limits over a lower layer that stands at the empty journal.
     /// `before` has the numbers of probes that were made on devices before.
@@ -100,13 +101,15 @@ impl<A: HostTemplate> Core<A> {
         &self.spec
     }
 
-    /// The journal, the oldest entry first. Fewer than 2^60 attempts were sent, each with one of the host's tags.
+    /// The journal, the oldest entry first. Fewer than 2^60 attempts were sent, each with one of the host's tags. A lower layer
+    /// that is honest and tells its attempts holds only such as the journal lets it hold.
     pub fn journal(&self) -> &[Entry]
         ensures entries { result.now ≡ self.now.journal }
         ensures few { sends (reverse self.now.journal) < 2 ^ 60 }
         ensures tagged { HaveTags self.now.spec.can_queue (reverse self.now.journal) }
         ensures legal { Legal self.now.spec self.now.journal }
         ensures stands { A.stands self.now.lower self.now.spec self.now.before (reverse self.now.journal) }
+        ensures right { IsRight self.now.spec (reverse self.now.journal) (A.means self.now.lower) }
     {
         self.book.entries()
     }
@@ -161,7 +164,7 @@ impl<A: HostTemplate> Core<A> {
 
     /// Makes room for `entries` more entries. It changes nothing else, also where it fails.
     pub fn reserve(&mut self, entries: usize) -> Result<(), NoMemory>
-        ensures same { IsSame A.stands A.is_due self.old self.new }
+        ensures same { IsSame A.stands A.is_due A.means self.old self.new }
         ensures ok { OnOk result (entries ≤ self.new.spare) }
     {
         self.book.reserve(entries)
@@ -170,15 +173,30 @@ impl<A: HostTemplate> Core<A> {
     /// Makes one step.
     ///
     /// Done adds a group of entries that begins with an opener of the step. Skipped names the first condition of the step
-    /// that fails. Where there is room for one entry, Own, Drop and Tick take no memory, and at most that one place.
+    /// that fails. Where there is room for one entry, Own, Drop and Tick take no memory, and at most that one place. At each
+    /// Sent a lower layer that is honest and tells its attempts holds no earlier attempt of the command.
     pub fn step(&mut self, s: Step) -> Result<Did, NoMemory>
-        ensures answer { Answers A.stands A.is_due self.old self.new s result }
+        ensures answer { Answers A.stands A.is_due A.means self.old self.new s result }
         ensures room { IsSpared s → 0 < self.old.spare → IsOk result × (self.old.spare ≤ self.new.spare + 1) }
         ensures legal { Legal self.new.spec self.new.journal }
         ensures stands { A.stands self.new.lower self.new.spec self.new.before (reverse self.new.journal) }
+        ensures right { IsRight self.new.spec (reverse self.new.journal) (A.means self.new.lower) }
+        ensures earlier { HoldsNoEarlier A.means self.old self.new }
         ensures tags { self.new.tags ≡ tag_states self.new.spec (reverse self.new.journal) }
     {
-        let answer = match s {
+        // What holds of a core holds of what the step finds, and of what it leaves.
+        let _ = self.journal();
+        let answer = self.make(s);
+        let _ = self.journal();
+        let _ = self.tag_states();
+        answer
+    }
+
+    fn make(&mut self, s: Step) -> Result<Did, NoMemory>
+        ensures answer { Answers A.stands A.is_due A.means self.old self.new s result }
+        ensures room { IsSpared s → 0 < self.old.spare → IsOk result × (self.old.spare ≤ self.new.spare + 1) }
+    {
+        match s {
             Step::Submit(lane) => self.submit(lane),
             Step::Send => self.send(),
             Step::Work => self.work(),
@@ -193,11 +211,7 @@ impl<A: HostTemplate> Core<A> {
             Step::EhEnd => self.end_recovery(),
             Step::Tick => self.tick(),
             Step::SetState(dev, state) => self.set_state(dev, state),
-        };
-        // What holds of a core holds of what the step left.
-        let _ = self.journal();
-        let _ = self.tag_states();
-        answer
+        }
     }
 }
 

@@ -1,9 +1,11 @@
 ghost use Rattle.std.specs.Prelude.{◌≡◌, List, IfOk, OnErr};
 ghost use Rattle.mid_base.specs.declared.entries.Entry.{Entry as EntrySeen};
 ghost use Rattle.mid_base.specs.declared.steps.Step.TheVariants as steps;
+ghost use Rattle.host_template.specs.Meaning.{SameNature, SameMeaning, IfHonest};
 ghost use Rattle.host_template.specs.Standing.{Before, Unchanged};
 ghost use Rattle.host_state.specs.HostAgrees.{HostAgrees};
-ghost use Rattle.mid_core.specs.Choices.{MayBeSent, IsHanded, ShowsHanded, StandsHanded, who_was_busy};
+ghost use Rattle.held_laws.specs.Steps.{HonestGroup};
+ghost use Rattle.mid_core.specs.Choices.{MayBeSent, IsHanded, ShowsHanded, StandsHanded, handed_group, who_was_busy};
 
 use crate::Core;
 use crate::choosing::{Turn, next_turn};
@@ -26,7 +28,7 @@ impl<A: HostTemplate> Core<A> {
 
     // The command that goes next is sent, or reported where its device isn't online.
     pub(crate) fn send(&mut self) -> Result<Did, NoMemory>
-        ensures { Answers A.stands A.is_due self.old self.new steps.Send result }
+        ensures { Answers A.stands A.is_due A.means self.old self.new steps.Send result }
     {
         match next_turn(&self.running) {
             Err(why) => Ok(Did::Skipped(why)),
@@ -66,10 +68,13 @@ fn hand_over<A: HostTemplate>(
     requires { (P : List EntrySeen) × HostAgrees spec.now P running.old × MayBeSent spec.now P running.old place }
     ensures runs { IfOk result (λ h. (P : List EntrySeen) → HostAgrees spec.now P running.old → MayBeSent spec.now P running.old place → IsHanded spec.now P running.new place h) }
     ensures stands { IfOk result (λ h. (P : List EntrySeen) (b : Before) → HostAgrees spec.now P running.old → MayBeSent spec.now P running.old place → StandsHanded A.stands spec.now b lower.old lower.new h P) }
+    ensures nature { SameNature (A.means lower.old) (A.means lower.new) }
+    ensures honest { IfOk result (λ h. (P : List EntrySeen) → HostAgrees spec.now P running.old → MayBeSent spec.now P running.old place → IfHonest (HonestGroup spec.now P (handed_group h)) (A.means lower.old) (A.means lower.new)) }
     ensures shown { IfOk result (λ h. ShowsHanded running.old.attempts.tags.items running.new.attempts.tags.items h) }
     ensures same { OnErr result ((P : List EntrySeen) → HostAgrees spec.now P running.old → HostAgrees spec.now P running.new) }
     ensures kept { OnErr result (running.new.attempts.tags.items ≡ running.old.attempts.tags.items) }
     ensures lower { OnErr result (Unchanged (A.stands lower.old) (A.stands lower.new) (A.is_due lower.old) (A.is_due lower.new)) }
+    ensures meaning { OnErr result (SameMeaning (A.means lower.old) (A.means lower.new)) }
 {
     running.reserve()?;
     lower.reserve(1)?;

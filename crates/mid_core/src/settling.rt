@@ -13,7 +13,7 @@ impl<A: HostTemplate> Core<A> {
     // An attempt that its answer owns is judged, and its command is reported, waits again or has failed. One that its expired
     // timer owns is set for an abort, or its command has failed.
     pub(crate) fn settle(&mut self, n: Attempt) -> Result<Did, NoMemory>
-        ensures { Answers A.stands A.is_due self.old self.new (steps.Settle n) result }
+        ensures { Answers A.stands A.is_due A.means self.old self.new (steps.Settle n) result }
     {
         match self.running.owned(n) {
             None => Ok(Did::Skipped(Why::NotOwned)),

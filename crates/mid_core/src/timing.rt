@@ -10,7 +10,7 @@ impl<A: HostTemplate> Core<A> {
     ghost use Rattle.mid_core.specs.Steps.{Answers};
 
     pub(crate) fn tick(&mut self) -> Result<Did, NoMemory>
-        ensures answer { Answers A.stands A.is_due self.old self.new steps.Tick result }
+        ensures answer { Answers A.stands A.is_due A.means self.old self.new steps.Tick result }
         ensures room { 0 < self.old.spare → IsOk result × (self.old.spare ≤ self.new.spare + 1) }
     {
         let now = self.running.now();
@@ -33,7 +33,7 @@ impl<A: HostTemplate> Core<A> {
     }
 
     pub(crate) fn set_state(&mut self, dev: DevAddr, state: DeviceState) -> Result<Did, NoMemory>
-        ensures { Answers A.stands A.is_due self.old self.new (steps.SetState dev state) result }
+        ensures { Answers A.stands A.is_due A.means self.old self.new (steps.SetState dev state) result }
     {
         if self.ladder.is_some() {
             return Ok(Did::Skipped(Why::EhRunning));

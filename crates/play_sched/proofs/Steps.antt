@@ -18,6 +18,7 @@ use Rattle.host_template.specs.Standing.{Before}
 use Rattle.adapter_tables.specs.Ties.{any_due}
 use Rattle.debug_adapter.specs.declared.adapter.DebugAdapter.{DebugAdapter}
 use Rattle.debug_adapter.specs.Adapter.{AdapterStands}
+use Rattle.debug_adapter.specs.Means.{means_of}
 use Rattle.trace_model.specs.Legal.{onto}
 use Rattle.trace_model.proofs.Making.{onto-reverse}
 use Rattle.mid_core.specs.View.{CoreView}
@@ -40,7 +41,7 @@ why_of (Skipped why) = Some why
 abbrev pub run_of : CoreView DebugAdapter → HostRun
 run_of v = record { spec = v.spec; before = v.before; entries = reverse v.journal }
 
-pub kept_on : (old new : CoreView DebugAdapter) (t : Step) (did : Did) → Answers AdapterStands (λ x now. any_due x.held now) old new t (Ok did)
+pub kept_on : (old new : CoreView DebugAdapter) (t : Step) (did : Did) → Answers AdapterStands (λ x now. any_due x.held now) (λ x. means_of x.held) old new t (Ok did)
     → (new.spec ≡ old.spec) × (new.before ≡ old.before)
 kept_on old new t Done answer = (answer.spec, answer.before)
 kept_on old new t (Skipped why) answer = (ap (λ (v : CoreView DebugAdapter). v.spec) answer.0, ap (λ (v : CoreView DebugAdapter). v.before) answer.0)
@@ -48,7 +49,7 @@ kept_on old new t (Skipped why) answer = (ap (λ (v : CoreView DebugAdapter). v.
 -- what a step of the core says of its host
 pub came : (old new : CoreView DebugAdapter) (run : HostRun) (t : Step) (did : Did) → run_of old ≡ run
     → AdapterStands old.lower old.spec old.before (reverse old.journal) → AdapterStands new.lower new.spec new.before (reverse new.journal)
-    → Answers AdapterStands (λ x now. any_due x.held now) old new t (Ok did)
+    → Answers AdapterStands (λ x now. any_due x.held now) (λ x. means_of x.held) old new t (Ok did)
     → Comes run.spec run.before run.entries t (why_of did) (reverse new.journal)
 came old new run t did view stands after answer =
     let kept = kept_on old new t did answer in
@@ -57,7 +58,7 @@ came old new run t did view stands after answer =
     (subst (λ (b : Before). LowerRun new.spec b (reverse new.journal)) kept.1 after.5) in
     subst (λ (r : HostRun). Comes r.spec r.before r.entries t (why_of did) (reverse new.journal)) view (by did answer lower)
   where
-    by : (x : Did) → Answers AdapterStands (λ x now. any_due x.held now) old new t (Ok x) → LowerRun old.spec old.before (reverse new.journal)
+    by : (x : Did) → Answers AdapterStands (λ x now. any_due x.held now) (λ x. means_of x.held) old new t (Ok x) → LowerRun old.spec old.before (reverse new.journal)
         → Comes old.spec old.before (reverse old.journal) t (why_of x) (reverse new.journal)
     by Done a lower = (
       any_due old.lower.held (ticks (reverse old.journal)),
@@ -77,7 +78,7 @@ came old new run t did view stands after answer =
 
 -- what is over stays so
 pub goes : (old new : CoreView DebugAdapter) (t : Step) (did : Did) → stops_none t ≡ true
-    → Answers AdapterStands (λ x now. any_due x.held now) old new t (Ok did) → GoesOn (run_of old) (run_of new)
+    → Answers AdapterStands (λ x now. any_due x.held now) (λ x. means_of x.held) old new t (Ok did) → GoesOn (run_of old) (run_of new)
 goes old new t Done none answer =
     let after = behind old.journal answer.group new.journal answer.journal in
     record {
@@ -97,7 +98,7 @@ some_added : (s : HostSpec) (P : List Entry) (t : Step) (g : List Entry) → Ope
 some_added s P t [] opened = absurd opened
 some_added s P t (e ∷ g) opened = omega arith
 
-pub longer : (old new : CoreView DebugAdapter) (t : Step) → Answers AdapterStands (λ x now. any_due x.held now) old new t (Ok Done)
+pub longer : (old new : CoreView DebugAdapter) (t : Step) → Answers AdapterStands (λ x now. any_due x.held now) (λ x. means_of x.held) old new t (Ok Done)
     → length (reverse old.journal) < length (reverse new.journal)
 longer old new t answer =
     omega (

@@ -1,4 +1,4 @@
-use Rattle.mid_base.specs.declared.answers.Disp.TheVariants.{Success, Retry, Requeue, Fail}
+use Rattle.mid_base.specs.declared.answers.Disp.TheVariants.{Success, Retry, Requeue}
 use Rattle.mid_core.proofs.judging.settle_by.Goals as goal
 
 pub returns-in-Success-clause-runs : goal.returns-in-Success-clause-runs

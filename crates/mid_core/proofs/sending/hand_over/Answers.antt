@@ -6,6 +6,7 @@ use Rattle.mid_base.specs.declared.host_spec.CmdSpec.{CmdSpec}
 use Rattle.mid_base.specs.declared.names.Attempt.{Attempt}
 use Rattle.host_state.specs.HostAgrees.{HostAgrees}
 use Rattle.mid_core.specs.Choices.{bounced}
+use Rattle.mid_core.proofs.Holding.{handed_honest}
 use Rattle.mid_core.proofs.Known.{spec_within}
 use Rattle.mid_core.proofs.Offered.{can_send, still_picked, read_there, read_id, command_of, number_is, fits, queued_is}
 use Rattle.mid_core.proofs.sending.hand_over.Goals as goal
@@ -97,3 +98,27 @@ returns-in-Some-clause-stands g c = λ P b runs may stood.
     subst (λ (X : List Entry). g.A.HostTemplate.stands c.queue.new.self s b X)
     (queued_is c.in_ok-answer.answer k.id n t P ∙ ap (λ (o : Option BusyOf). bounced k.id n o (Sent k.id n t ∷ P)) (sym c.busy_of.ensures ∙ c.in-Some.is))
     told
+
+pub returns-in-None-clause-honest : goal.returns-in-None-clause-honest
+returns-in-None-clause-honest g c = λ P runs may.
+    let s = c.args.spec.now in
+    let r = c.reserve.new.self in
+    let k = c.index-as_slice-place.result in
+    let n : Attempt = record { 0 = c.count.result + 1 } in
+    let roomy = c.in_ok-reserve.ensures.same s P runs in
+    let picked = may.turn.picked in
+    let read = read_there c.as_slice.result.now s.cmds c.args.place k c.as_slice.ensures (spec_within s P c.args.running.now runs c.args.place picked.row picked.row_at) c.index-as_slice-place.is in
+    handed_honest s P k.id n c.send-sending.result.tag k.dev c.in_ok-answer.answer _ _ _ _ (ap (λ (j : CmdSpec). j.dev) (sym (command_of s P r roomy c.args.place k read))) (sym c.busy_of.ensures ∙ c.in-None.is)
+    c.in_ok-reserve-2.ensures.kept c.in_ok-answer.ensures.honest
+
+pub returns-in-Some-clause-honest : goal.returns-in-Some-clause-honest
+returns-in-Some-clause-honest g c = λ P runs may.
+    let s = c.args.spec.now in
+    let r = c.reserve.new.self in
+    let k = c.index-as_slice-place.result in
+    let n : Attempt = record { 0 = c.count.result + 1 } in
+    let roomy = c.in_ok-reserve.ensures.same s P runs in
+    let picked = may.turn.picked in
+    let read = read_there c.as_slice.result.now s.cmds c.args.place k c.as_slice.ensures (spec_within s P c.args.running.now runs c.args.place picked.row picked.row_at) c.index-as_slice-place.is in
+    handed_honest s P k.id n c.send_in_vain-sending.result.tag k.dev c.in_ok-answer.answer _ _ _ _ (ap (λ (j : CmdSpec). j.dev) (sym (command_of s P r roomy c.args.place k read))) (sym c.busy_of.ensures ∙ c.in-Some.is)
+    c.in_ok-reserve-2.ensures.kept c.in_ok-answer.ensures.honest

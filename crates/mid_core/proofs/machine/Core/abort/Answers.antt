@@ -26,11 +26,12 @@ invariant_of-self-2 g c =
     let follow = c.settle_aborted-follows.result in
     let right = c.settle_aborted-follows.ensures.entry P core.runs in
     rw (back2 c.self.inside.book.entries _ _ _ (Aborted row.command n ok) follow c.in_ok-reserve.ensures.entries c.push.ensures.entries c.push-2.ensures.entries)
-    (core_grows _ _ _ _ _ P (Aborted row.command n ok ∷ follow ∷ []) _ _ _ _ core
+    (core_grows _ _ _ _ _ _ P (Aborted row.command n ok ∷ follow ∷ []) _ _ _ _ core
     (subst (λ (x : Entry). Keeps spec P (Aborted row.command n ok ∷ x ∷ [])) (sym right) (aborted_keeps spec P row.command n ok (aborting_calm spec P core.legal n.0 it.first)))
     (group_aborted spec P row.command n ok it.first it.sent c.try_abort-ok.ensures.calls follow right)
     (laws.silent c.try_abort-ok.new.lower spec before (Aborted row.command n ok ∷ P) follow (subst (λ (x : Entry). IsSilent spec x) (sym right) (after_abort_silent spec P row.command n ok))
     (c.try_abort-ok.ensures.stands P before core.runs core.stood))
+    (c.try_abort-ok.ensures.nature, c.try_abort-ok.ensures.honest P)
     (c.settle_aborted-follows.ensures.runs P core.runs))
 
 pub returns : goal.returns
@@ -58,4 +59,5 @@ returns g c =
       };
       enters = subst (λ (x : Entry). list_all (may_enter step.Abort) (Aborted row.command n ok ∷ x ∷ []) ≡ true) (sym right) (aborted_enters spec P row.command n ok);
       tags = c.settle_aborted-follows.ensures.shown;
+      nature = c.try_abort-ok.ensures.nature;
     })

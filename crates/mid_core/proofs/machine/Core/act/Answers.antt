@@ -27,11 +27,12 @@ invariant_of-self-in-Act g c =
     let es = c.in-Act.entries.items in
     let acted = rw c.in-Act.is at c.in_ok-entries.ensures.act in
     let stood = rw c.in-Act.is at c.in_ok-entries.ensures.stands in
+    let did = rw c.in-Act.is at c.in_ok-entries.ensures.honest in
     let taken = acts_taken spec P (each_of spec P core.legal) c.in-Some.ladder core.stage c.in-Act.level c.in-Act.scope c.in-Act.ok es acted.0 core.runs.limits in
     let runs = tells_all spec P es c.deref.result.now _ _ c.deref.ensures.value core.runs taken c.tell_all.ensures.runs in
     let told = told_behind c.self.inside.book.entries _ _ es _ c.in_ok-reserve.ensures.entries c.deref.ensures.value c.tell_all.ensures.told in
     rw (back_onto c.self.inside.book.entries _ es told, acted.1)
-    (core_acts _ _ _ _ _ P _ _ c.in-Some.ladder c.self.inside.probes.items _ c.in-Act.level c.in-Act.scope c.in-Act.ok es core acted.0 stood runs
+    (core_acts _ _ _ _ _ _ P _ _ c.in-Some.ladder c.self.inside.probes.items _ c.in-Act.level c.in-Act.scope c.in-Act.ok es core acted.0 stood c.next.ensures.nature did runs
     (buffer_kept c.self.inside.probes.len c.self.inside.probes.items c.next.new.into core.buffer
     (sym c.deref_mut.ensures.len ∙ ap (λ (xs : List ℕ). length xs) c.deref_mut.ensures.value)
     (c.next.ensures.len ∙ ap (λ (xs : List ℕ). length xs) c.deref_mut.ensures.value)))
@@ -52,4 +53,5 @@ returns g c =
       adds = acts_add spec P each c.in-Some.ladder core.stage c.in-Act.level c.in-Act.scope c.in-Act.ok es acted.0 (g.A.HostTemplate.is_due c.self.inside.lower (ticks P));
       enters = acts_enter spec P each c.in-Some.ladder core.stage c.in-Act.level c.in-Act.scope c.in-Act.ok es acted.0 core.runs.limits;
       tags = c.tell_all.ensures.shown;
+      nature = c.next.ensures.nature;
     })

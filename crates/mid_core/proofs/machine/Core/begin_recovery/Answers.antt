@@ -15,6 +15,7 @@ use Rattle.trace_model.specs.Recovery.{failed, is_quiet, listed}
 use Rattle.trace_model.specs.Rules.{is_lost}
 use Rattle.verdict_table.specs.Taken.{AreTaken}
 use Rattle.mid_core.proofs.Staged.{each_of, stage_calm}
+use Rattle.mid_core.proofs.Holding.{idle, same_nature}
 use Rattle.mid_core.proofs.Growing.{core_recovers}
 use Rattle.mid_core.proofs.Begins.{lost_is, stands_cleared, cleared_enter, added_all, back_all, begins, nothing_bars_beginning}
 use Rattle.mid_core.proofs.machine.Core.begin_recovery.Goals as goal
@@ -55,9 +56,10 @@ invariant_of-self-2 g c =
     c.leave_offline.ensures ∙ ap online_alone (c.in_ok-ladder.ensures ∙ ap (λ (xs : List Todo). begun xs spec.handlers spec.no_async_abort) items)
     in
     rw (back_all c.self.inside.book.entries _ _ _ EhBegin (lost_cleared spec P) c.in_ok-reserve.ensures.entries c.push.ensures.entries (rw cleared at c.tell_all.ensures.told))
-    (core_recovers _ _ _ _ _ P (EhBegin ∷ lost_cleared spec P) _ _ _ (Some c.leave_offline.new.self) _ _ core
+    (core_recovers _ _ _ _ _ _ P (EhBegin ∷ lost_cleared spec P) _ _ _ (Some c.leave_offline.new.self) _ _ core
     (begun_group spec P (begins spec P calm some quiet))
     (stands_cleared _ (laws.silent c.self.inside.lower) spec before (EhBegin ∷ P) (filter (is_lost spec P) (listed spec P)) (laws.silent c.self.inside.lower spec before P EhBegin tt core.stood))
+    (idle _)
     (subst (λ (es : List Entry). HostAgrees spec (onto es (EhBegin ∷ P)) c.tell_all.new.running) cleared runs)
     (has_begun_there spec P, subst (λ (k : Climb). IsLadderOf spec (begun_at spec P) k) (sym ladder) (begun_ladder spec P))
     core.buffer)
@@ -84,4 +86,5 @@ returns g c =
       };
       enters = cleared_enter (filter (is_lost spec P) (listed spec P));
       tags = c.tell_all.ensures.shown ∙ c.begin_recovery.ensures.shown;
+      nature = same_nature _;
     })

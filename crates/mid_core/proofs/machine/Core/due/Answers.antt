@@ -4,6 +4,7 @@ use Rattle.mid_base.specs.Past.{ticks}
 use Rattle.mid_core.proofs.Asked.{still_asked}
 use Rattle.mid_core.proofs.Groups.{group_asked, added_asked, nothing_bars_asking, opens_asked, asked_enters}
 use Rattle.mid_core.proofs.Staged.{asked_keeps}
+use Rattle.mid_core.proofs.Holding.{asked_does}
 use Rattle.mid_core.proofs.Growing.{core_grows, added, back}
 use Rattle.mid_core.proofs.machine.Core.due.Goals as goal
 
@@ -15,7 +16,7 @@ invariant_of-self-in_err-reserve-2 g c =
     let P = reverse c.self.inside.book.entries in
     let r = c.self.inside.running in
     rw (ap (λ (xs : List Entry). reverse xs) c.in_ok-reserve.ensures.entries)
-    (record { legal = core.legal; stood = core.stood; runs = c.in_err-reserve-2.ensures.same spec P core.runs; stage = core.stage; buffer = core.buffer })
+    (record { legal = core.legal; stood = core.stood; right = core.right; runs = c.in_err-reserve-2.ensures.same spec P core.runs; stage = core.stage; buffer = core.buffer })
 
 pub ask-said-requires-clause-asked : goal.ask-said-requires-clause-asked
 ask-said-requires-clause-asked g c =
@@ -41,8 +42,9 @@ invariant_of-self-2 g c =
     let said = c.ask-said.result in
     let is = c.ask-said.ensures.said in
     rw (back c.self.inside.book.entries _ _ said c.in_ok-reserve.ensures.entries c.push.ensures.entries)
-    (core_grows _ _ _ _ _ P (said ∷ []) _ _ _ _ core (asked_keeps spec P core.legal n said is due.1) (group_asked spec P n due.1 said is)
+    (core_grows _ _ _ _ _ _ P (said ∷ []) _ _ _ _ core (asked_keeps spec P core.legal n said is due.1) (group_asked spec P n due.1 said is)
     (c.ask-said.ensures.stands P before roomy core.stood)
+    (asked_does spec P n said _ _ is c.ask-said.ensures.nature c.ask-said.ensures.honest)
     (c.ask-said.ensures.runs P roomy))
 
 pub returns : goal.returns
@@ -69,4 +71,5 @@ returns g c =
       };
       enters = asked_enters n said is;
       tags = c.ask-said.ensures.shown ∙ c.in_ok-reserve-2.ensures.shown;
+      nature = c.ask-said.ensures.nature;
     })

@@ -2,6 +2,7 @@ use Rattle.std.proofs.Common.{reverse, refl, [], ◌∷◌, None}
 use Rattle.mid_base.specs.declared.entries.Entry.TheVariants.{EhEnd}
 use Rattle.mid_base.specs.Past.{ticks}
 use Rattle.mid_core.proofs.Flushed.{begun, nothing_left, group_ended, nothing_bars_ending}
+use Rattle.mid_core.proofs.Holding.{idle, same_nature}
 use Rattle.mid_core.proofs.Growing.{core_recovers, added, back}
 use Rattle.mid_core.proofs.machine.Core.end_recovery.Goals as goal
 
@@ -14,9 +15,10 @@ invariant_of-self-2 g c =
     let begins = begun spec P c.self.inside.ladder c.in-Some.ladder c.in-Some.is core.stage in
     let none = nothing_left spec P c.self.inside.ladder c.in-Some.ladder c.in-Some.is core.stage c.left.result.now c.is_empty.result c.left.ensures c.is_empty.ensures c.if-not-is_empty.false in
     rw (back c.self.inside.book.entries _ _ EhEnd c.in_ok-reserve.ensures.entries c.push.ensures.entries)
-    (core_recovers _ _ _ _ _ P (EhEnd ∷ []) _ _ _ None _ _ core
+    (core_recovers _ _ _ _ _ _ P (EhEnd ∷ []) _ _ _ None _ _ core
     (group_ended spec P begins none c.has_failed.result (c.has_failed.ensures spec P core.runs) c.if-has_failed.false)
     (laws.silent c.self.inside.lower spec c.self.inside.before P EhEnd tt core.stood)
+    (idle _)
     (c.end_recovery.ensures.runs spec P core.runs)
     refl
     core.buffer)
@@ -41,4 +43,5 @@ returns g c =
       };
       enters = refl;
       tags = c.end_recovery.ensures.shown;
+      nature = same_nature _;
     })

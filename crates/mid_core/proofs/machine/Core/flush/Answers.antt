@@ -4,6 +4,7 @@ use Rattle.mid_base.specs.declared.entries.Entry.{Entry}
 use Rattle.mid_base.specs.Past.{ticks}
 use Rattle.verdict_table.specs.declared.verdicts.FailedRow.{FailedRow}
 use Rattle.mid_core.proofs.Flushed.{IsFlushing, begun, nothing_left, head, flushing, nothing_bars_flushing}
+use Rattle.mid_core.proofs.Holding.{same_nature}
 use Rattle.mid_core.proofs.Growing.{core_grows, added, back}
 use Rattle.mid_core.proofs.Staged.{each_of}
 use Rattle.mid_core.proofs.machine.Core.flush.Goals as goal
@@ -37,8 +38,9 @@ invariant_of-self-2 g c =
     let right = c.flush_first-entry.ensures.entry P each core.runs in
     let it = subst (λ (y : Entry). IsFlushing spec P y) (sym right) (flushing spec P each begins none x (head spec P r core.runs x first)) in
     rw (back c.self.inside.book.entries _ _ e c.in_ok-reserve.ensures.entries c.push.ensures.entries)
-    (core_grows _ _ _ _ _ P (e ∷ []) _ _ _ _ core it.keeps it.group
+    (core_grows _ _ _ _ _ _ P (e ∷ []) _ _ _ _ core it.keeps it.group
     (laws.silent c.self.inside.lower spec c.self.inside.before P e it.silent core.stood)
+    (it.does _)
     (c.flush_first-entry.ensures.runs P each core.runs))
 
 pub returns : goal.returns
@@ -70,4 +72,5 @@ returns g c =
       };
       enters = it.enters;
       tags = c.flush_first-entry.ensures.shown;
+      nature = same_nature _;
     })

@@ -7,6 +7,7 @@ use Rattle.command_table.proofs.Entries.{id_is}
 use Rattle.mid_core.proofs.Offered.{picked_id}
 use Rattle.mid_core.proofs.Groups.{group_stranded, stranded, group_handed, group_bounced}
 use Rattle.mid_core.proofs.Staged.{calm_keeps, keeps_stage, sending_calm}
+use Rattle.mid_core.proofs.Holding.{does_right, idle, same_nature}
 use Rattle.mid_core.proofs.Growing.{core_grows, added, back, added2, back2}
 use Rattle.mid_core.proofs.machine.Core.send.Goals as goal
 
@@ -27,9 +28,10 @@ invariant_of-self-in-Ok-Report g c =
     let there = picked_id spec P r i h.picked in
     let id = id_is i r.commands.rows.items c.command.result h.picked.command.id c.command.ensures there in
     rw (back c.self.inside.book.entries _ _ (Told c.command.result.id c.not_connected.result) c.in_ok-reserve-in-Ok-Report.ensures.entries c.push.ensures.entries, id, c.not_connected.ensures)
-    (core_grows _ _ _ _ _ P (Told h.picked.command.id no_connect ∷ []) _ _ _ _ core (calm_keeps spec P (Told h.picked.command.id no_connect ∷ []) refl (sending_calm spec P core.legal h.calm))
+    (core_grows _ _ _ _ _ _ P (Told h.picked.command.id no_connect ∷ []) _ _ _ _ core (calm_keeps spec P (Told h.picked.command.id no_connect ∷ []) refl (sending_calm spec P core.legal h.calm))
     (group_stranded spec P r core.runs i _ h refl)
     (laws.silent c.self.inside.lower spec c.self.inside.before P (Told h.picked.command.id no_connect) tt core.stood)
+    (idle _)
     (c.strand.ensures.runs spec P h.picked.command.id no_connect there core.runs))
 
 pub returns-in_ok-reserve-in-Ok-Report : goal.returns-in_ok-reserve-in-Ok-Report
@@ -53,6 +55,7 @@ returns-in_ok-reserve-in-Ok-Report g c =
       };
       enters = refl;
       tags = c.strand.ensures.shown;
+      nature = same_nature _;
     })
 
 pub invariant_of-self-in-None : goal.invariant_of-self-in-None
@@ -66,9 +69,10 @@ invariant_of-self-in-None g c =
     let may = (rw (c.in-Ok-Send.field-0-is, ← c.in-Ok-Send.place-is) at c.in-Ok-Send.ensures) spec P core.runs in
     let told = made.runs P core.runs may in
     rw (back c.self.inside.book.entries _ _ (Sent o.id o.attempt o.tag) c.in_ok-reserve-in-Ok-Send.ensures.entries c.push-in-Ok-Send.ensures.entries)
-    (core_grows _ _ _ _ _ P (Sent o.id o.attempt o.tag ∷ []) _ _ _ _ core (calm_keeps spec P (Sent o.id o.attempt o.tag ∷ []) refl (sending_calm spec P core.legal may.turn.calm))
+    (core_grows _ _ _ _ _ _ P (Sent o.id o.attempt o.tag ∷ []) _ _ _ _ core (calm_keeps spec P (Sent o.id o.attempt o.tag ∷ []) refl (sending_calm spec P core.legal may.turn.calm))
     (group_handed spec P r c.hand_over.new.running core.runs _ may o told)
     (rw c.in-None.is at (made.stands P c.self.inside.before core.runs may core.stood))
+    (c.hand_over.ensures.nature, rw c.in-None.is at (made.honest P core.runs may))
     (rw c.in-None.is at told.runs))
 
 pub returns-in-None : goal.returns-in-None
@@ -93,6 +97,7 @@ returns-in-None g c =
       };
       enters = refl;
       tags = rw c.in-None.is at made.shown;
+      nature = c.hand_over.ensures.nature;
     })
 
 pub invariant_of-self-in-Some : goal.invariant_of-self-in-Some
@@ -113,6 +118,9 @@ invariant_of-self-in-Some g c =
           (goes_on_back spec P (sent ∷ []) core.legal (group_handed spec P r c.hand_over.new.running core.runs _ may o told))
           (group_bounced spec P o.id o.attempt o.tag why);
       stood = rw c.in-Some.is at (made.stands P c.self.inside.before core.runs may core.stood);
+      right =
+          does_right spec P (sent ∷ Bounced o.id o.attempt why ∷ []) _ _ core.legal (group_handed spec P r c.hand_over.new.running core.runs _ may o told, group_bounced spec P o.id o.attempt o.tag why)
+          (c.hand_over.ensures.nature, rw c.in-Some.is at (made.honest P core.runs may)) core.right;
       runs = rw c.in-Some.is at told.runs;
       stage = keeps_stage spec P (sent ∷ Bounced o.id o.attempt why ∷ []) _ (calm_keeps spec P (sent ∷ Bounced o.id o.attempt why ∷ []) refl (sending_calm spec P core.legal may.turn.calm)) core.stage;
       buffer = core.buffer;
@@ -141,4 +149,5 @@ returns-in-Some g c =
       };
       enters = refl;
       tags = rw c.in-Some.is at made.shown;
+      nature = c.hand_over.ensures.nature;
     })

@@ -7,6 +7,7 @@ use Rattle.trace_model.specs.Devices.{state}
 use Rattle.mid_core.proofs.Known.{dev_within, dev_state}
 use Rattle.mid_core.proofs.Groups.{enters_state, group_state, opens_state, nothing_bars_a_state, illegal_state, legal_pair, illegal_pair}
 use Rattle.mid_core.proofs.Staged.{calm_keeps, stage_calm}
+use Rattle.mid_core.proofs.Holding.{idle, same_nature}
 use Rattle.mid_core.proofs.Growing.{core_grows, added, back}
 use Rattle.mid_core.proofs.machine.Core.set_state.Goals as goal
 
@@ -41,9 +42,10 @@ invariant_of-self-in-Ok g c =
     ap (λ (x : DeviceState). may_become x c.args.state) had ∙ legal_pair (may_become c.device_state.result c.args.state) c.device_state.result c.args.state c.in-Ok.field-0 (sym c.set_device.ensures ∙ c.in-Ok.is)
     in
     rw (back c.self.inside.book.entries _ _ (State c.args.dev c.args.state) c.in_ok-reserve-in-Ok.ensures.entries c.push.ensures.entries)
-    (core_grows _ _ _ _ _ P (State c.args.dev c.args.state ∷ []) _ _ _ _ core (calm_keeps spec P (State c.args.dev c.args.state ∷ []) refl calm)
+    (core_grows _ _ _ _ _ _ P (State c.args.dev c.args.state ∷ []) _ _ _ _ core (calm_keeps spec P (State c.args.dev c.args.state ∷ []) refl calm)
     (group_state spec P c.args.dev c.args.state calm there.1 may)
     (laws.silent c.self.inside.lower spec c.self.inside.before P (State c.args.dev c.args.state) tt core.stood)
+    (idle _)
     (c.set_state.ensures.runs spec P c.args.dev there.0 core.runs))
 
 pub returns-in_ok-reserve-in-Ok : goal.returns-in_ok-reserve-in-Ok
@@ -69,4 +71,5 @@ returns-in_ok-reserve-in-Ok g c =
       };
       enters = enters_state spec P c.args.dev c.args.state;
       tags = c.set_state.ensures.shown;
+      nature = same_nature _;
     })

@@ -6,6 +6,7 @@ use Rattle.command_table.proofs.Entries.{id_is}
 use Rattle.mid_core.proofs.Known.{id_within}
 use Rattle.mid_core.proofs.Groups.{refused, group_took, group_refused, opens_took, opens_refused, nothing_bars_handing}
 use Rattle.mid_core.proofs.Staged.{refused_keeps, other_keeps}
+use Rattle.mid_core.proofs.Holding.{idle, same_nature}
 use Rattle.mid_core.proofs.Growing.{core_grows, added, back}
 use Rattle.mid_core.proofs.machine.Core.submit.Goals as goal
 
@@ -31,9 +32,10 @@ invariant_of-self-in-Ok-Refuse g c =
     let h = (rw c.in-Ok-Refuse.field-0-is at c.in-Ok-Refuse.ensures) spec P core.runs in
     let id = id_is i r.commands.rows.items c.command.result h.next.command.id c.command.ensures h.next.id in
     rw (back c.self.inside.book.entries _ _ (Told c.command.result.id c.not_connected.result) c.in_ok-reserve-in-Ok-Refuse.ensures.entries c.push.ensures.entries, id, c.not_connected.ensures)
-    (core_grows _ _ _ _ _ P (Told h.next.command.id no_connect ∷ []) _ _ _ _ core (refused_keeps spec P core.legal h.next.command.id no_connect (refused spec P r core.runs c.args.lane i _ h refl))
+    (core_grows _ _ _ _ _ _ P (Told h.next.command.id no_connect ∷ []) _ _ _ _ core (refused_keeps spec P core.legal h.next.command.id no_connect (refused spec P r core.runs c.args.lane i _ h refl))
     (group_refused spec P r core.runs c.args.lane i _ h refl)
     (laws.silent c.self.inside.lower spec c.self.inside.before P (Told h.next.command.id no_connect) tt core.stood)
+    (idle _)
     (c.refuse.ensures.runs spec P h.next.command.id no_connect h.next.id core.runs))
 
 pub returns-in_ok-reserve-in-Ok-Refuse : goal.returns-in_ok-reserve-in-Ok-Refuse
@@ -57,6 +59,7 @@ returns-in_ok-reserve-in-Ok-Refuse g c =
       };
       enters = refl;
       tags = c.refuse.ensures.shown;
+      nature = same_nature _;
     })
 
 pub invariant_of-self-in-Ok-Take : goal.invariant_of-self-in-Ok-Take
@@ -70,9 +73,10 @@ invariant_of-self-in-Ok-Take g c =
     let h = (rw c.in-Ok-Take.field-0-is at c.in-Ok-Take.ensures) spec P core.runs in
     let id = id_is i r.commands.rows.items c.command-in-Ok-Take.result h.next.command.id c.command-in-Ok-Take.ensures h.next.id in
     rw (back c.self.inside.book.entries _ _ (Took c.command-in-Ok-Take.result.id) c.in_ok-reserve-in-Ok-Take.ensures.entries c.push-in-Ok-Take.ensures.entries, id)
-    (core_grows _ _ _ _ _ P (Took h.next.command.id ∷ []) _ _ _ _ core (other_keeps spec P (Took h.next.command.id) refl (λ begun. tt))
+    (core_grows _ _ _ _ _ _ P (Took h.next.command.id ∷ []) _ _ _ _ core (other_keeps spec P (Took h.next.command.id) refl (λ begun. tt))
     (group_took spec P r core.runs c.args.lane i _ h refl)
     (laws.silent c.self.inside.lower spec c.self.inside.before P (Took h.next.command.id) tt core.stood)
+    (idle _)
     (c.in_ok-take-in-Ok-Take.ensures.runs spec P h.next.command.id h.next.id core.runs))
 
 pub returns-in_ok-take-in-Ok-Take : goal.returns-in_ok-take-in-Ok-Take
@@ -96,4 +100,5 @@ returns-in_ok-take-in-Ok-Take g c =
       };
       enters = refl;
       tags = c.take.ensures.shown;
+      nature = same_nature _;
     })

@@ -12,9 +12,11 @@ invariant_of-self-in-Some g c =
     let P = reverse c.self.inside.book.entries in
     let roomy = c.in_ok-reserve-2.ensures.same spec P core.runs in
     let told = rw c.in-Some.is at c.in_ok-n.ensures.none in
+    let did = rw c.in-Some.is at c.in_ok-n.ensures.honest in
     rw (back c.self.inside.book.entries _ _ (Ready c.in-Some.n c.in-Some.a) c.in_ok-reserve.ensures.entries c.push.ensures.entries)
-    (core_grows _ _ _ _ _ P (Ready c.in-Some.n c.in-Some.a ∷ []) _ _ _ _ core (ready_keeps spec P core.legal c.in-Some.n c.in-Some.a) (tt, tt)
+    (core_grows _ _ _ _ _ _ P (Ready c.in-Some.n c.in-Some.a ∷ []) _ _ _ _ core (ready_keeps spec P core.legal c.in-Some.n c.in-Some.a) (tt, tt)
     (told spec c.self.inside.before P (c.now-now.ensures ∙ sym core.runs.time) core.stood)
+    (c.work.ensures.nature, did)
     (c.answer.ensures.runs spec P roomy))
 
 pub returns : goal.returns
@@ -37,4 +39,5 @@ returns g c =
       };
       enters = refl;
       tags = c.answer.ensures.shown ∙ c.in_ok-reserve-2.ensures.shown;
+      nature = c.work.ensures.nature;
     })

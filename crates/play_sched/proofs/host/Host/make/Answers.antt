@@ -4,6 +4,7 @@ use Rattle.mid_base.specs.declared.steps.Why.{Why}
 use Rattle.mid_base.specs.declared.answers.NoMemory.{NoMemory}
 use Rattle.adapter_tables.specs.Ties.{any_due}
 use Rattle.debug_adapter.specs.Adapter.{AdapterStands}
+use Rattle.debug_adapter.specs.Means.{means_of}
 use Rattle.mid_core.specs.Steps.{Answers}
 use Rattle.drain_rounds.specs.Making.{Comes, HostRun}
 use Rattle.play_sched.specs.Rest.{GoesOn}
@@ -37,6 +38,6 @@ returns-clause-more c e =
     elim c.match-branch-2.branch [
       | in-Done w ↦
           subst (λ (run : HostRun). length run.entries < length (reverse new.journal)) c.self.view_is
-          (longer old new c.args.step (subst (λ (did : Did). Answers AdapterStands (λ x now. any_due x.held now) old new c.args.step (Ok did)) w.in-Done.is c.in_ok-step.ensures.answer))
+          (longer old new c.args.step (subst (λ (did : Did). Answers AdapterStands (λ x now. any_due x.held now) (λ x. means_of x.held) old new c.args.step (Ok did)) w.in-Done.is c.in_ok-step.ensures.answer))
       | in-Skipped w ↦ absurd (let other = rw w.result-is at e in cc other)
     ]
