@@ -7,7 +7,7 @@ ghost use Rattle.script_text.specs.Gives.{seen};
 
 use crate::host_draft::HostDraft;
 use crate::hosts::{command_onto, fault_onto, unit_onto};
-use mid_base::{CmdId, CmdSpec, HostNo, LunSpec, NoMemory, PlanEntry, Step};
+use mid_base::{CmdId, CmdSpec, DevAddr, HostNo, LunSpec, NoMemory, PlanEntry, Step};
 use script_words::{Keyword, Kind};
 use std::alloc::Global;
 use std::collections::BTreeSet;
@@ -18,6 +18,7 @@ pub struct Draft {
     pub alloc: Global,
     pub line: u64,
     pub hosts: Vec<HostDraft>,
+    pub scans: Vec<(HostNo, DevAddr)>,
     pub ids: BTreeSet<u32>,
     pub plans: usize,
     pub steps: Vec<(u64, HostNo, Step)>,
@@ -34,6 +35,7 @@ impl Draft {
             alloc,
             line: 0,
             hosts: Vec::new(alloc),
+            scans: Vec::new(alloc),
             ids: BTreeSet::new(alloc),
             plans: 0,
             steps: Vec::new(alloc),
@@ -91,6 +93,16 @@ impl Draft {
         ensures { OnOk result (seen self.new ≡ record (seen self.old) { hosts = on_host no.0 (with_unit unit) (seen self.old).hosts }) }
     {
         unit_onto(&mut self.hosts, no, unit)
+    }
+
+    /// Adds a device of the host with this number that is found by scanning.
+    pub fn add_scan(&mut self, no: HostNo, dev: DevAddr) -> Result<(), NoMemory>
+        ensures { OnOk result (seen self.new ≡ record (seen self.old) { scans = (seen self.old).scans ++ (no, dev) ∷ [] }) }
+    {
+        match self.scans.push((no, dev)) {
+            Ok(()) => Ok(()),
+            Err(_) => Err(NoMemory),
+        }
     }
 
     /// Adds a planned fault to the host with this number.
