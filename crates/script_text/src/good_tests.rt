@@ -142,8 +142,10 @@ fn only_devices_that_are_found_by_scanning_start_in_created(rt: HostRuntime) -> 
     let [host] = script.hosts.as_slice() else {
         return Err("one host".into());
     };
-    let starts = [host.luns.as_slice()[0].start, host.luns.as_slice()[1].start];
-    assert_eq!(rt; starts, [DeviceState::Created, DeviceState::Running]);
+    let [first, second] = host.luns.as_slice() else {
+        return Err("two units".into());
+    };
+    assert_eq!(rt; (first.start, second.start), (DeviceState::Created, DeviceState::Running));
     Ok(())
 }
 
