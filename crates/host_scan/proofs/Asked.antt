@@ -34,7 +34,7 @@ use Rattle.debug_lun.proofs.Lists.{length_list}
 use Rattle.lun_scan.specs.declared.fault.ScanFault.{ScanFault}
 use Rattle.lun_scan.specs.declared.fault.ScanFault.TheVariants as fault
 use Rattle.lun_scan.specs.Numbers.{known, lun_numbers, numbers_in}
-use Rattle.lun_scan.specs.Scans.{IsScan, inquiry_fault, list_answer, or_fault, scan_answer, scan_entries, unless_fault}
+use Rattle.lun_scan.specs.Scans.{IsScan, UnlessNoMemory, inquiry_fault, list_answer, or_fault, scan_answer, scan_entries, unless_fault}
 use Rattle.lun_scan.proofs.Listed.{numbers_read}
 use Rattle.debug_lun.specs.Units.{LogicalUnit, Reply, reply_of}
 use Rattle.debug_lun.specs.Pages.{standard_inquiry}
@@ -50,7 +50,8 @@ use Rattle.debug_adapter.specs.declared.adapter.DebugAdapter.{DebugAdapter}
 use Rattle.host_scan.specs.declared.target.Target.{Target}
 use Rattle.host_scan.specs.Targets.{zero_of}
 use Rattle.host_scan.specs.Found.{is_silent, probes_of}
-use Rattle.host_scan.specs.Findings.{is_listed}
+use Rattle.host_scan.specs.declared.finding.Finding.{Finding}
+use Rattle.host_scan.specs.Findings.{ScansTo, finding_of, is_listed, probes_until}
 use Rattle.host_scan.proofs.Counted.{earlier_more, none_earlier}
 use Rattle.host_scan.proofs.Served.{inquiry_served, report_served}
 
@@ -259,3 +260,81 @@ pub asked : (s : HostSpec) (b : Before) (t : Target) (old new : DebugAdapter) (b
 asked s b t old new buffer answer limits there off h stood =
     subst (IsAsked s b t new) (sym h.answered)
     (by_first s b t limits there off new h.first h.second (taken report_luns h.second buffer) (h.stands s b [] stood) (λ a good said. h.brought s b [] a good said stood))
+
+-- ---- the finding that is made of it
+
+asked_ok : (s : HostSpec) (t : Target) (ns : List ℕ) → has_dev s.luns (zero_of t) ≡ true → Ok ns ≡ outcome s (zero_of t)
+    → ◌≡◌ {A = Finding} (record { target = t; probes = 2; numbers = ns }) (finding_of s t)
+asked_ok s t ns there e = elim (cases_Bool (is_silent s (zero_of t) 1)) [
+  | inl quiet ↦ absurd (let no = rw quiet at e in cc no)
+  | inr loud ↦ elim (cases_Bool (is_silent s (zero_of t) 2)) [
+    | inl quiet ↦ absurd (let no = rw (loud, quiet) at e in cc no)
+    | inr told ↦
+        let same : ns ≡ target_luns s.luns (zero_of t) = ok_same ns (target_luns s.luns (zero_of t)) (rw (loud, told) at e) in
+        rw (there, loud, told) (ap (λ (ms : List ℕ). record { target = t; probes = 2; numbers = ms }) same)
+  ]
+]
+  where
+    ok_same : (ms ks : List ℕ) → ◌≡◌ {A = Result (List ℕ) ScanFault} (Ok ms) (Ok ks) → ms ≡ ks
+    ok_same ms ks same = cc
+
+asked_err : (s : HostSpec) (t : Target) (f : ScanFault) (k : ℕ) → has_dev s.luns (zero_of t) ≡ true → Err f ≡ outcome s (zero_of t) → probes_until f ≡ Some k
+    → ◌≡◌ {A = Finding} (record { target = t; probes = k; numbers = [] }) (finding_of s t)
+asked_err s t f k there e sent = elim (cases_Bool (is_silent s (zero_of t) 1)) [
+  | inl quiet ↦
+      let same : f ≡ fault.Silent inquiry = err_same f (fault.Silent inquiry) (rw quiet at e) in
+      let one : k ≡ 1 = some_same k 1 (sym sent ∙ ap probes_until same) in
+      rw (there, quiet) (ap (λ (n : ℕ). record { target = t; probes = n; numbers = [] }) one)
+  | inr loud ↦ elim (cases_Bool (is_silent s (zero_of t) 2)) [
+    | inl quiet ↦
+        let same : f ≡ fault.Silent report_luns = err_same f (fault.Silent report_luns) (rw (loud, quiet) at e) in
+        let two : k ≡ 2 = some_same k 2 (sym sent ∙ ap probes_until same) in
+        rw (there, loud, quiet) (ap (λ (n : ℕ). record { target = t; probes = n; numbers = [] }) two)
+    | inr told ↦ absurd (let no = rw (loud, told) at e in cc no)
+  ]
+]
+  where
+    err_same : (g h : ScanFault) → ◌≡◌ {A = Result (List ℕ) ScanFault} (Err g) (Err h) → g ≡ h
+    err_same g h same = cc
+
+    some_same : (n m : ℕ) → Some n ≡ Some m → n ≡ m
+    some_same n m same = cc
+
+-- ---- the scan of a target
+
+pub scanned_ok : (s : HostSpec) (t : Target) (old new : DebugAdapter) (buffer ns : List ℕ) → KeepsLimits s → has_dev s.luns (zero_of t) ≡ true
+    → IsScan (AdapterStands old) (AdapterStands new) (λ r c P d code bytes. bytes ≡ data_in (probe_gives r c P d code)) (zero_of t) buffer (Ok ns)
+    → ScansTo s old new t (record { target = t; probes = 2; numbers = ns })
+scanned_ok s t old new buffer ns limits there h b off stood =
+    let a = asked s b t old new buffer (Ok ns) limits there off h stood in
+    let same = asked_ok s t ns there a.answered in
+    (same, subst (λ (k : ℕ). AdapterStands new s (b ++ (zero_of t, k) ∷ []) []) (sym (ap (λ (f : Finding). f.probes) same)) a.stands)
+
+pub scanned_err : (s : HostSpec) (t : Target) (old new : DebugAdapter) (buffer : List ℕ) (f : ScanFault) (k : ℕ) → KeepsLimits s → has_dev s.luns (zero_of t) ≡ true → probes_until f ≡ Some k
+    → UnlessNoMemory (IsScan (AdapterStands old) (AdapterStands new) (λ r c P d code bytes. bytes ≡ data_in (probe_gives r c P d code)) (zero_of t) buffer) (Err f)
+    → ScansTo s old new t (record { target = t; probes = k; numbers = [] })
+scanned_err s t old new buffer f k limits there sent h b off stood =
+    let a = asked s b t old new buffer (Err f) limits there off (ends f sent h) stood in
+    let same = asked_err s t f k there a.answered sent in
+    (same, subst (λ (n : ℕ). AdapterStands new s (b ++ (zero_of t, n) ∷ []) []) (sym (ap (λ (x : Finding). x.probes) same)) a.stands)
+  where
+    abbrev Scans : Result (List ℕ) ScanFault → Type 0
+    Scans = IsScan (AdapterStands old) (AdapterStands new) (λ r c P d code bytes. bytes ≡ data_in (probe_gives r c P d code)) (zero_of t) buffer
+
+    ends : (g : ScanFault) → probes_until g ≡ Some k → UnlessNoMemory Scans (Err g) → Scans (Err g)
+    ends (fault.Silent code) e x = x
+    ends (fault.Refused code a) e x = x
+    ends (fault.List list) e x = x
+    ends (fault.Inquiry moved) e x = x
+    ends fault.NoMemory e x = absurd (cc)
+
+-- a target without a unit 0
+pub unasked : (s : HostSpec) (t : Target) (x : DebugAdapter) (ns : List ℕ) → has_dev s.luns (zero_of t) ≡ false → ns ≡ [] → ScansTo s x x t (record { target = t; probes = 0; numbers = ns })
+unasked s t x ns none e b off stood = (
+  rw none (ap (λ (ms : List ℕ). record { target = t; probes = 0; numbers = ms }) e),
+  moved x s b (b ++ (zero_of t, 0) ∷ []) [] tt (λ d. earlier_more b (zero_of t) 0 d off ∙ ap (λ (n : ℕ). earlier b d + n) (nothing (same_dev (zero_of t) d))) stood,
+)
+  where
+    nothing : (q : Bool) → (if q then 0 else 0) ≡ 0
+    nothing true = refl
+    nothing false = refl
