@@ -215,7 +215,7 @@ module _ (s : HostSpec) (b : Before) (t : Target) (limits : KeepsLimits s) (ther
       let quiet = if_none (is_silent s z 2) (data_reply (take 2056 (lun_list (target_luns s.luns z)))) (stood.5.0 ∙ second_told s b z first there off) in
       record {
         answered = rw (loud, quiet) refl;
-        stands = rw (there, loud) (moved new s b (b ++ (z, 2) ∷ []) (Probed z report_luns Nothing ∷ Probed z inquiry first ∷ []) (inr refl, inl refl, tt) (λ d. twice b z first Nothing d off) stood);
+        stands = rw (there, loud) (moved new s b (b ++ (z, 2) ∷ []) (Probed z report_luns Nothing ∷ Probed z inquiry first ∷ []) (inr refl, (inl refl, tt)) (λ d. twice b z first Nothing d off) stood);
       }
 
   few : length (target_luns s.luns z) ≤ 256
@@ -229,7 +229,7 @@ module _ (s : HostSpec) (b : Before) (t : Target) (limits : KeepsLimits s) (ther
       let read = list_read (target_luns s.luns z) bytes (small_numbers s.luns z limits.luns) few (given ∙ second_given s b z first there off told.0) in
       record {
         answered = rw (good_answer a (take 2056 (lun_list (target_luns s.luns z))) told.1, read.whole, read.numbers, loud, told.0) refl;
-        stands = rw (there, loud) (moved new s b (b ++ (z, 2) ∷ []) (Probed z report_luns (Answered a) ∷ Probed z inquiry first ∷ []) (inr refl, inl refl, tt) (λ d. twice b z first (Answered a) d off) stood);
+        stands = rw (there, loud) (moved new s b (b ++ (z, 2) ∷ []) (Probed z report_luns (Answered a) ∷ Probed z inquiry first ∷ []) (inr refl, (inl refl, tt)) (λ d. twice b z first (Answered a) d off) stood);
       }
 
   -- what follows INQUIRY where it is answered
@@ -255,8 +255,12 @@ module _ (s : HostSpec) (b : Before) (t : Target) (limits : KeepsLimits s) (ther
       (subst (λ (o : Option ScanFault). AdapterStands new s b (onto (unless_fault o (Probed z report_luns second ∷ [])) (Probed z inquiry (Answered a) ∷ []))) good stood)
       (λ x e. given x good e))
 
+-- the adapter was scanned
+abbrev pub Scans : DebugAdapter → DebugAdapter → DevAddr → List ℕ → Result (List ℕ) ScanFault → Type 0
+Scans old new d buffer answer = IsScan (AdapterStands old) (AdapterStands new) (λ r c P e code bytes. bytes ≡ data_in (probe_gives r c P e code)) d buffer answer
+
 pub asked : (s : HostSpec) (b : Before) (t : Target) (old new : DebugAdapter) (buffer : List ℕ) (answer : Result (List ℕ) ScanFault) → KeepsLimits s → has_dev s.luns (zero_of t) ≡ true → is_listed b (zero_of t) ≡ false
-    → IsScan (AdapterStands old) (AdapterStands new) (λ r c P d code bytes. bytes ≡ data_in (probe_gives r c P d code)) (zero_of t) buffer answer → AdapterStands old s b [] → IsAsked s b t new answer
+    → Scans old new (zero_of t) buffer answer → AdapterStands old s b [] → IsAsked s b t new answer
 asked s b t old new buffer answer limits there off h stood =
     subst (IsAsked s b t new) (sym h.answered)
     (by_first s b t limits there off new h.first h.second (taken report_luns h.second buffer) (h.stands s b [] stood) (λ a good said. h.brought s b [] a good said stood))
@@ -303,7 +307,7 @@ asked_err s t f k there e sent = elim (cases_Bool (is_silent s (zero_of t) 1)) [
 -- ---- the scan of a target
 
 pub scanned_ok : (s : HostSpec) (t : Target) (old new : DebugAdapter) (buffer ns : List ℕ) → KeepsLimits s → has_dev s.luns (zero_of t) ≡ true
-    → IsScan (AdapterStands old) (AdapterStands new) (λ r c P d code bytes. bytes ≡ data_in (probe_gives r c P d code)) (zero_of t) buffer (Ok ns)
+    → Scans old new (zero_of t) buffer (Ok ns)
     → ScansTo s old new t (record { target = t; probes = 2; numbers = ns })
 scanned_ok s t old new buffer ns limits there h b off stood =
     let a = asked s b t old new buffer (Ok ns) limits there off h stood in
@@ -311,17 +315,14 @@ scanned_ok s t old new buffer ns limits there h b off stood =
     (same, subst (λ (k : ℕ). AdapterStands new s (b ++ (zero_of t, k) ∷ []) []) (sym (ap (λ (f : Finding). f.probes) same)) a.stands)
 
 pub scanned_err : (s : HostSpec) (t : Target) (old new : DebugAdapter) (buffer : List ℕ) (f : ScanFault) (k : ℕ) → KeepsLimits s → has_dev s.luns (zero_of t) ≡ true → probes_until f ≡ Some k
-    → UnlessNoMemory (IsScan (AdapterStands old) (AdapterStands new) (λ r c P d code bytes. bytes ≡ data_in (probe_gives r c P d code)) (zero_of t) buffer) (Err f)
+    → UnlessNoMemory (Scans old new (zero_of t) buffer) (Err f)
     → ScansTo s old new t (record { target = t; probes = k; numbers = [] })
 scanned_err s t old new buffer f k limits there sent h b off stood =
     let a = asked s b t old new buffer (Err f) limits there off (ends f sent h) stood in
     let same = asked_err s t f k there a.answered sent in
     (same, subst (λ (n : ℕ). AdapterStands new s (b ++ (zero_of t, n) ∷ []) []) (sym (ap (λ (x : Finding). x.probes) same)) a.stands)
   where
-    abbrev Scans : Result (List ℕ) ScanFault → Type 0
-    Scans = IsScan (AdapterStands old) (AdapterStands new) (λ r c P d code bytes. bytes ≡ data_in (probe_gives r c P d code)) (zero_of t) buffer
-
-    ends : (g : ScanFault) → probes_until g ≡ Some k → UnlessNoMemory Scans (Err g) → Scans (Err g)
+    ends : (g : ScanFault) → probes_until g ≡ Some k → UnlessNoMemory (Scans old new (zero_of t) buffer) (Err g) → Scans old new (zero_of t) buffer (Err g)
     ends (fault.Silent code) e x = x
     ends (fault.Refused code a) e x = x
     ends (fault.List list) e x = x
@@ -335,6 +336,6 @@ unasked s t x ns none e b off stood = (
   moved x s b (b ++ (zero_of t, 0) ∷ []) [] tt (λ d. earlier_more b (zero_of t) 0 d off ∙ ap (λ (n : ℕ). earlier b d + n) (nothing (same_dev (zero_of t) d))) stood,
 )
   where
-    nothing : (q : Bool) → (if q then 0 else 0) ≡ 0
+    nothing : (q : Bool) → ◌≡◌ {A = ℕ} (if q then 0 else 0) 0
     nothing true = refl
     nothing false = refl
