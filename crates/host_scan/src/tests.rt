@@ -58,7 +58,10 @@ fn starts(alloc: Global, silent: u32, devices: &[DevAddr]) -> Result<Vec<DeviceS
 fn devices_of_targets_that_answer_are_found(rt: HostRuntime) -> Result<(), Fail> {
     use DeviceState::{Del, Running};
     let found = starts(rt.alloc(), 3, &UNITS)?;
-    assert_eq!(rt; found.as_slice(), [Del, Running, Running, Running].as_slice());
+    assert_eq!(rt;
+        found.as_slice(),
+        [Del, Running, Running, Running].as_slice()
+    );
     Ok(())
 }
 
@@ -74,7 +77,10 @@ fn a_target_that_sends_no_list_has_no_devices(rt: HostRuntime) -> Result<(), Fai
 fn other_devices_stay_as_they_were(rt: HostRuntime) -> Result<(), Fail> {
     use DeviceState::{Created, Running};
     let found = starts(rt.alloc(), 1, &[at(0, 256)])?;
-    assert_eq!(rt; found.as_slice(), [Created, Created, Running, Created].as_slice());
+    assert_eq!(rt;
+        found.as_slice(),
+        [Created, Created, Running, Created].as_slice()
+    );
     Ok(())
 }
 

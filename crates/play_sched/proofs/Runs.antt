@@ -1,5 +1,5 @@
 -- The hosts of a script that was played.
-use Rattle.std.proofs.Common.{◌≡◌, ℕ, suc, Bool, not, ◌&&◌, List, [], ◌∷◌, ◌++◌, length, map, take, drop, refl, sym, ap, ◌∙◌, ◌==◌, subst, inl, inr, arith}
+use Rattle.std.proofs.Common.{◌≡◌, ℕ, suc, Bool, not, ◌&&◌, List, [], ◌∷◌, ◌++◌, length, map, take, drop, get_or, refl, sym, ap, ◌∙◌, ◌==◌, subst, inl, inr, arith}
 use Rattle.std.specs.Prelude.{All}
 use Rattle.std.proofs.lemmas.Bool.{cases_Bool}
 use Rattle.std.proofs.lemmas.List.{append-nil, drop_all, length-map, take_all}
@@ -43,7 +43,7 @@ step_on_found scans (h ∷ hosts) n t is = elim (cases_Bool (h.no.0 == n)) [
 pub steps_fit : (scans : List (HostNo × DevAddr)) (hosts : List HostSpec) (steps : List (ℕ × HostNo × Step)) (start : List HostRun) → start ≡ map (unplayed scans) hosts
     → All (IsStepOf hosts) steps → All (IsStepOf (specs_of start)) steps
 steps_fit scans hosts steps start f all =
-    subst (λ (hs : List HostSpec). All (IsStepOf hs) steps) (sym (started scans hosts start f)) (λ k x lt. step_on_found scans hosts x.1.0 x.2 (all k x lt))
+    subst (λ (hs : List HostSpec). All (IsStepOf hs) steps) (sym (started scans hosts start f)) (λ k x lt. step_on_found scans hosts (get_or steps k x).1.0 (get_or steps k x).2 (all k x lt))
 
 pub ran : (script : Script) (mid new : List HostRun) (skips : List (ℕ × Why)) (short : Bool) → Plays script.steps (map (unplayed script.scans) script.hosts) mid skips
     → RunOn script.drain (most_rounds script) mid new → specs_of new ≡ map (as_found script.scans) script.hosts → short ≡ (script.drain && not (all_drained new)) → All IsRun new → Ran script new skips short

@@ -15,8 +15,8 @@ loop-target-preserved c =
     let ts = c.deref-target-items.result.now in
     let i = c.loop-target.target-index in
     let goes = one_more c.args.spec.now c.args.devices.now ts i no_target c.loop-target.lower c.scan_target.new.lower c.in_ok-finding.finding c.loop-target.findings.items c.push.new.self.items
-        (c.deref-target-items.ensures.value ∙ c.in_ok-targets.ensures) c.loop-target-test.true c.in_ok-finding.ensures (search rules) c.loop-target.invariant.found c.loop-target.invariant.stands in
-    record { found = goes.found; stands = goes.stands; }
+    (c.deref-target-items.ensures.value ∙ c.in_ok-targets.ensures) c.loop-target-test.true c.in_ok-finding.ensures (search rules) c.loop-target.invariant.found c.loop-target.invariant.stands in
+    record { found = goes.found; stands = goes.stands }
 
 pub returns-clause-stands : goal.returns-clause-stands
 returns-clause-stands c =
