@@ -4,7 +4,7 @@ use mid_base::{DevAddr, DeviceState, Fault, Handlers, HostNo, HostSpec, LunSpec,
 use std::alloc::Global;
 use std::test::Fail;
 
-const fn at(target: u8, lun: u16) -> DevAddr {
+fn at(target: u8, lun: u16) -> DevAddr {
     DevAddr {
         channel: 0,
         target,
@@ -13,12 +13,14 @@ const fn at(target: u8, lun: u16) -> DevAddr {
 }
 
 // Target 0 has units 0 and 256, target 1 has unit 0, and target 2 has no unit 0.
-const UNITS: [DevAddr; 4] = [at(2, 7), at(1, 0), at(0, 256), at(0, 0)];
+fn units() -> [DevAddr; 4] {
+    [at(2, 7), at(1, 0), at(0, 256), at(0, 0)]
+}
 
 // A host with these units, of which unit 0 of target 1 is silent to its probe with this number.
 fn host(alloc: Global, silent: u32) -> Result<HostSpec, Fail> {
     let mut luns = Vec::new(alloc);
-    for dev in UNITS {
+    for dev in units() {
         luns.push(LunSpec {
             dev,
             blocks: 8,
@@ -57,7 +59,7 @@ fn starts(alloc: Global, silent: u32, devices: &[DevAddr]) -> Result<Vec<DeviceS
 #[test]
 fn devices_of_targets_that_answer_are_found(rt: HostRuntime) -> Result<(), Fail> {
     use DeviceState::{Del, Running};
-    let found = starts(rt.alloc(), 3, &UNITS)?;
+    let found = starts(rt.alloc(), 3, &units())?;
     assert_eq!(rt;
         found.as_slice(),
         [Del, Running, Running, Running].as_slice()
@@ -68,7 +70,7 @@ fn devices_of_targets_that_answer_are_found(rt: HostRuntime) -> Result<(), Fail>
 #[test]
 fn a_target_that_sends_no_list_has_no_devices(rt: HostRuntime) -> Result<(), Fail> {
     use DeviceState::{Del, Running};
-    let found = starts(rt.alloc(), 2, &UNITS)?;
+    let found = starts(rt.alloc(), 2, &units())?;
     assert_eq!(rt; found.as_slice(), [Del, Del, Running, Running].as_slice());
     Ok(())
 }
@@ -86,7 +88,7 @@ fn other_devices_stay_as_they_were(rt: HostRuntime) -> Result<(), Fail> {
 
 #[test]
 fn each_target_is_probed_once(rt: HostRuntime) -> Result<(), Fail> {
-    let scanned = scan_host(rt.alloc(), host(rt.alloc(), 1)?, &UNITS)?;
+    let scanned = scan_host(rt.alloc(), host(rt.alloc(), 1)?, &units())?;
     let probes = [(at(0, 0), 2), (at(1, 0), 1), (at(2, 0), 0)];
     assert_eq!(rt; scanned.before.as_slice(), probes.as_slice());
     Ok(())
