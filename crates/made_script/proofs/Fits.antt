@@ -74,5 +74,4 @@ is_playable n few =
       limits = All-cons KeepsLimits (host n) [] (keeps_limits n few) (All-nil KeepsLimits);
       numbers = refl;
       steps = All-nil (IsStepOf (host n ∷ []));
-      no_scan = refl;
     }

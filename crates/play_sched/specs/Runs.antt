@@ -1,14 +1,26 @@
 -- A host that is run over the simulated adapter.
-use Rattle.std.specs.Prelude.{◌≡◌, ◌==◌, ℕ, Bool, true, List, [], map, reverse, nat_le}
+use Rattle.std.specs.Prelude.{◌≡◌, ◌==◌, ℕ, Bool, true, List, [], filter, map, reverse, nat_le}
 use Rattle.std.specs.List.{list_all}
+use Rattle.mid_base.specs.declared.names.DevAddr.{DevAddr}
+use Rattle.mid_base.specs.declared.names.HostNo.{HostNo}
 use Rattle.mid_base.specs.declared.host_spec.HostSpec.{HostSpec}
 use Rattle.journal_laws.specs.Headline.{Headline}
 use Rattle.debug_adapter.specs.LowerRun.{LowerRun}
+use Rattle.host_scan.specs.Found.{found, probed_before}
 use Rattle.drain_rounds.specs.Making.{HostRun}
 use Rattle.drain_rounds.specs.Rounds.{is_drained}
 
-abbrev pub unplayed : HostSpec → HostRun
-unplayed s = record { spec = s; before = []; entries = [] }
+-- of these devices those of the host with this number
+abbrev pub devices_on : ℕ → List (HostNo × DevAddr) → List DevAddr
+devices_on number scans = map (λ x. x.1) (filter (λ x. x.0.0 == number) scans)
+
+-- a host after its targets were scanned for those devices that are found by scanning
+abbrev pub as_found : List (HostNo × DevAddr) → HostSpec → HostSpec
+as_found scans s = found (devices_on s.no.0 scans) s
+
+-- nothing else has happened to it
+abbrev pub unplayed : List (HostNo × DevAddr) → HostSpec → HostRun
+unplayed scans s = record { spec = as_found scans s; before = probed_before (devices_on s.no.0 scans) s; entries = [] }
 
 -- the journal keeps every rule and promise, and the lower layer's part of it is that of an adapter with the host's plan
 pub record IsRun (run : HostRun) : Type 0 where

@@ -14,7 +14,6 @@ use Rattle.mid_base.specs.declared.faults.PlanEntry.{PlanEntry}
 use Rattle.mid_base.specs.declared.host_spec.LunSpec.{LunSpec}
 use Rattle.mid_base.specs.declared.host_spec.CmdSpec.{CmdSpec}
 use Rattle.mid_base.specs.declared.host_spec.HostSpec.{HostSpec}
-use Rattle.mid_base.specs.declared.states.DeviceState.TheVariants.{Running}
 use Rattle.mid_base.specs.declared.steps.Step.{Step}
 use Rattle.mid_base.specs.declared.steps.Step.TheVariants as steps
 use Rattle.script_words.specs.declared.kind.Kind.{Kind}
@@ -31,8 +30,8 @@ use Rattle.script_words.specs.Faults.{unless_true, number_fault}
 use Rattle.script_text.specs.declared.script.Script.{Script}
 use Rattle.script_text.specs.declared.script.Bad.{Bad}
 use Rattle.script_text.specs.Said.{Said, nothing, host_of, with_unit, with_planned, with_command, on_host}
-use Rattle.script_text.specs.Slots.{slots, some_fault_slots, or_else, first_fault, is_read_only, is_stopped}
-use Rattle.script_text.specs.Adds.{adds, step_in, some_fault_of, is_more, fill_of}
+use Rattle.script_text.specs.Slots.{slots, some_fault_slots, or_else, first_fault, is_read_only, is_stopped, is_scan}
+use Rattle.script_text.specs.Adds.{adds, start_state, step_in, some_fault_of, is_more, fill_of}
 use Rattle.script_text.specs.Script.{is_again, is_full, keyword_fault, unless, judge_slots, after_keyword, judge_rest, judge, whole, at_line, after_line, counted, judge_lines, script_of}
 use Rattle.script_text.specs.Playable.{IsStepOf, differ_in_number, IsPlayable}
 use Rattle.script_text.proofs.Grown.{any_kept, numbers_more, true_not}
@@ -158,7 +157,7 @@ after_lun said (a ∷ []) k f = k
 after_lun said (a ∷ b ∷ []) k f = k
 after_lun said (a ∷ b ∷ c ∷ []) k f = k
 after_lun said (a ∷ b ∷ c ∷ d ∷ flags) k f =
-    let l : LunSpec = record { dev = address_value b; blocks = value c; depth = value d; read_only = list_any is_read_only flags; stopped = list_any is_stopped flags; start = Running } in
+    let l : LunSpec = record { dev = address_value b; blocks = value c; depth = value d; read_only = list_any is_read_only flags; stopped = list_any is_stopped flags; start = start_state (list_any is_scan flags) } in
     let unit = new_unit_fits (host_of said.hosts (value a)) b f.1.0 in
     let room = roomy_fits said a f.0 in
     let good : is_lun l ≡ true = rw (unit.0, number_fits 1 4294967295 c f.1.1.0, number_fits 1 1024 d f.1.1.1.0) refl in
@@ -297,13 +296,12 @@ whole_plays n said s k e =
     elim (cases_Bool said.ended) [
       | inl t ↦
           let h = rw t at e in
-          let same : ◌≡◌ {A = Script} (record { hosts = said.hosts; scans = []; steps = said.steps; budget = said.budget; drain = said.drain }) s = cc h in
+          let same : ◌≡◌ {A = Script} (record { hosts = said.hosts; scans = said.scans; steps = said.steps; budget = said.budget; drain = said.drain }) s = cc h in
           subst IsPlayable same
           (record {
             limits = each_all KeepsLimits said.hosts (each_where (HostKeeps said.ids said.plans) KeepsLimits (λ g keeps. host_limits said.ids said.plans g k.few_ids k.few_plans keeps) said.hosts k.each);
             numbers = k.numbers;
             steps = steps_all said.hosts said.steps k.steps;
-            no_scan = refl;
           })
       | inr f ↦ absurd (let h = rw f at e in cc h)
     ]

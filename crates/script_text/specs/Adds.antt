@@ -4,7 +4,10 @@ use Rattle.std.specs.List.{list_any}
 use Rattle.std.specs.Ordering.{nat_cmp}
 use Rattle.std.specs.BTreeSet.{insert_key}
 use Rattle.mid_base.specs.declared.answers.By.TheVariants.{Answer}
-use Rattle.mid_base.specs.declared.states.DeviceState.TheVariants.{Running}
+use Rattle.mid_base.specs.declared.names.DevAddr.{DevAddr}
+use Rattle.mid_base.specs.declared.names.HostNo.{HostNo}
+use Rattle.mid_base.specs.declared.states.DeviceState.{DeviceState}
+use Rattle.mid_base.specs.declared.states.DeviceState.TheVariants.{Created, Running}
 use Rattle.mid_base.specs.declared.steps.Step.{Step}
 use Rattle.mid_base.specs.declared.steps.Step.TheVariants as steps
 use Rattle.mid_base.specs.declared.faults.Fault.{Fault}
@@ -24,7 +27,7 @@ use Rattle.script_words.specs.Hex.{bytes_value, byte_value, half_value, cdb_of, 
 use Rattle.script_words.specs.Words.{handlers_value, address_value}
 use Rattle.script_words.specs.Keywords.{step_name, eh_name, end_name, plan_kind, owner, state, failfast}
 use Rattle.script_text.specs.Said.{Said, on_host, with_unit, with_planned, with_command}
-use Rattle.script_text.specs.Slots.{is_read_only, is_stopped}
+use Rattle.script_text.specs.Slots.{is_read_only, is_stopped, is_scan}
 
 -- the step of recovery that has this name
 unfoldable pub eh_step : EhName → Step
@@ -89,6 +92,16 @@ abbrev pub is_drain : Option EndName → Bool
 is_drain (Some ends.Drain) = true
 is_drain _ = false
 
+-- where a device starts: one that is found by scanning is in Created until it was looked for
+abbrev pub start_state : Bool → DeviceState
+start_state true = Created
+start_state false = Running
+
+-- one more device, if it is found by scanning
+abbrev pub with_scan : Bool → HostNo × DevAddr → List (HostNo × DevAddr) → List (HostNo × DevAddr)
+with_scan true d scans = scans ++ d ∷ []
+with_scan false d scans = scans
+
 -- what a good line adds
 abbrev pub adds : Said → Keyword → List (List ℕ) → Said
 adds said lines.HostLine (number ∷ can_queue ∷ callbacks ∷ rest) =
@@ -103,8 +116,9 @@ adds said lines.LunLine (host ∷ unit ∷ blocks ∷ depth ∷ flags) =
         depth = value depth;
         read_only = list_any is_read_only flags;
         stopped = list_any is_stopped flags;
-        start = Running;
+        start = start_state (list_any is_scan flags);
       })) said.hosts;
+      scans = with_scan (list_any is_scan flags) (record { 0 = value host }, address_value unit) said.scans;
     }
 adds said lines.PlanLine (host ∷ unit ∷ kind ∷ first ∷ every ∷ uses ∷ rest) =
     record said {

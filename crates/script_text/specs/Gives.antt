@@ -21,13 +21,13 @@ use Rattle.script_text.specs.declared.script.Script.{Script}
 use Rattle.script_text.specs.declared.script.Bad.{Bad}
 use Rattle.script_text.specs.Said.{Said, host_of}
 use Rattle.script_text.specs.Script.{judge, at_line, after_line}
-use Rattle.script_text.specs.Slots.{Slot, AnyStep, slot_fault, first_fault, fault_slots, unit_flag_fault, is_read_only, is_stopped}
+use Rattle.script_text.specs.Slots.{Slot, AnyStep, slot_fault, first_fault, fault_slots, unit_flag_fault, is_read_only, is_stopped, is_scan}
 use Rattle.script_text.specs.Slots as slots
 use Rattle.script_text.specs.Adds.{step_in, fault_of}
 
 -- what a draft holds, without where it lies in memory
 abbrev pub seen : Draft → Said
-seen d = record { line = d.line; hosts = d.hosts.items; ids = d.ids.keys; plans = d.plans; steps = d.steps.items; budget = d.budget; ended = d.ended; drain = d.drain }
+seen d = record { line = d.line; hosts = d.hosts.items; scans = d.scans.items; ids = d.ids.keys; plans = d.plans; steps = d.steps.items; budget = d.budget; ended = d.ended; drain = d.drain }
 
 -- the host that the word at a place of hosts names
 abbrev pub HostGives : Said → Slot → Option (Bor (List ℕ)) → Result (Bor HostSpec) Kind → Type 0
@@ -64,16 +64,18 @@ FlagGives said host slot read words (Ok v) = (first_fault said host (slot ∷ []
 FlagGives said host slot read words (Err kind) = first_fault said host (slot ∷ []) words ≡ Some kind
 
 -- one more flag of a unit
-abbrev pub FlagsGive : Bool → Bool → List ℕ → Result UnitFlags Kind → Type 0
-FlagsGive ro stopped word (Ok flags) =
-    (unit_flag_fault ro stopped word ≡ None) × (flags.read_only ≡ (ro || is_read_only word)) × (flags.stopped ≡ (stopped || is_stopped word))
-FlagsGive ro stopped word (Err kind) = unit_flag_fault ro stopped word ≡ Some kind
+abbrev pub FlagsGive : UnitFlags → List ℕ → Result UnitFlags Kind → Type 0
+FlagsGive old word (Ok flags) =
+    (unit_flag_fault old.read_only old.stopped old.scan word ≡ None) × (flags.read_only ≡ (old.read_only || is_read_only word))
+    × (flags.stopped ≡ (old.stopped || is_stopped word)) × (flags.scan ≡ (old.scan || is_scan word))
+FlagsGive old word (Err kind) = unit_flag_fault old.read_only old.stopped old.scan word ≡ Some kind
 
 -- all flags of a unit
 abbrev pub UnitFlagsGive : Said → Option HostSpec → List (List ℕ) → Result UnitFlags Kind → Type 0
 UnitFlagsGive said host words (Ok flags) =
-    (first_fault said host (slots.UnitFlags false false ∷ []) words ≡ None) × (flags.read_only ≡ list_any is_read_only words) × (flags.stopped ≡ list_any is_stopped words)
-UnitFlagsGive said host words (Err kind) = first_fault said host (slots.UnitFlags false false ∷ []) words ≡ Some kind
+    (first_fault said host (slots.UnitFlags false false false ∷ []) words ≡ None) × (flags.read_only ≡ list_any is_read_only words)
+    × (flags.stopped ≡ list_any is_stopped words) × (flags.scan ≡ list_any is_scan words)
+UnitFlagsGive said host words (Err kind) = first_fault said host (slots.UnitFlags false false false ∷ []) words ≡ Some kind
 
 -- sense key, additional sense code and its qualifier
 abbrev pub CodesGive : Said → Option HostSpec → List (List ℕ) → Result (ℕ × ℕ × ℕ) Kind → Type 0

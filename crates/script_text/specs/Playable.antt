@@ -35,4 +35,3 @@ pub record IsPlayable (s : Script) : Type 0 where
   pub limits : All KeepsLimits s.hosts
   pub numbers : differ_in_number s.hosts ≡ true
   pub steps : All (IsStepOf s.hosts) s.steps
-  pub no_scan : s.scans ≡ []

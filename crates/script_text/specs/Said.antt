@@ -10,11 +10,12 @@ use Rattle.mid_base.specs.declared.host_spec.CmdSpec.{CmdSpec}
 use Rattle.mid_base.specs.declared.host_spec.HostSpec.{HostSpec}
 use Rattle.mid_base.specs.declared.steps.Step.{Step}
 
--- `line` is the number of the present line; `ids` are those of all commands, in ascending order; `drain` says that the last
--- line was read and has the hosts run on
+-- `line` is the number of the present line; `scans` are the devices that are found by scanning; `ids` are those of all
+-- commands, in ascending order; `drain` says that the last line was read and has the hosts run on
 pub record Said : Type 0 where
   pub line : ℕ
   pub hosts : List HostSpec
+  pub scans : List (HostNo × DevAddr)
   pub ids : List ℕ
   pub plans : ℕ
   pub steps : List (ℕ × HostNo × Step)
@@ -23,7 +24,7 @@ pub record Said : Type 0 where
   pub drain : Bool
 
 abbrev pub nothing : Said
-nothing = record { line = 0; hosts = []; ids = []; plans = 0; steps = []; budget = None; ended = false; drain = false }
+nothing = record { line = 0; hosts = []; scans = []; ids = []; plans = 0; steps = []; budget = None; ended = false; drain = false }
 
 -- there is a value, and it passes
 abbrev pub passes : {V : Type 0} → (V → Bool) → Option V → Bool

@@ -58,7 +58,7 @@ judge said (word ∷ rest) = if is_remark word then Ok said else judge_rest said
 -- the lines end before line n
 abbrev pub whole : ℕ → Said → Result Script Bad
 whole n said =
-    if said.ended then Ok (record { hosts = said.hosts; scans = []; steps = said.steps; budget = said.budget; drain = said.drain })
+    if said.ended then Ok (record { hosts = said.hosts; scans = said.scans; steps = said.steps; budget = said.budget; drain = said.drain })
     else Err (bad n kinds.NoEnd)
 
 abbrev pub at_line : ℕ → Said → Said

@@ -1,5 +1,5 @@
 -- Which words may stand behind the first one of a line, and what is wrong with others.
-use Rattle.std.specs.Prelude.{ℕ, nat_lt, Bool, true, false, not, ◌||◌, if◌then◌else◌, List, [], ◌∷◌, length, Option, Some, None, is_some, codes}
+use Rattle.std.specs.Prelude.{ℕ, nat_lt, Bool, true, false, not, ◌&&◌, ◌||◌, if◌then◌else◌, List, [], ◌∷◌, length, Option, Some, None, is_some, codes}
 use Rattle.std.specs.Str.{bytes_eq}
 use Rattle.mid_base.specs.Limits.{last_number}
 use Rattle.mid_base.specs.declared.host_spec.HostSpec.{HostSpec}
@@ -28,7 +28,7 @@ pub data Slot : Type 0 where
   NoAsync : Bool → Slot  -- the flag of a host, which the line has already or not; the line may end here
   NewUnit : Slot  -- an address that no unit of the line's host has
   KnownUnit : Slot  -- the address of a unit of the line's host
-  UnitFlags : Bool → Bool → Slot  -- flags of a unit, of which the line has `ro` or not, and `stopped` or not; it may end here
+  UnitFlags : Bool → Bool → Bool → Slot  -- flags of a unit, of which the line has `ro`, `stopped` and `scan` or not; it may end here
   NewCommand : Slot  -- a command's id that no earlier line has
   KnownLane : Slot  -- a lane of the line's host that has a command
   FailFast : Slot  -- `-` or `failfast`
@@ -46,7 +46,7 @@ pub data Slot : Type 0 where
 -- what stands behind the first word of a line
 abbrev pub slots : Keyword → List Slot
 slots lines.HostLine = NewHost ∷ Number 1 1024 ∷ Callbacks ∷ NoAsync false ∷ []
-slots lines.LunLine = RoomyHost ∷ NewUnit ∷ Number 1 4294967295 ∷ Number 1 1024 ∷ UnitFlags false false ∷ []
+slots lines.LunLine = RoomyHost ∷ NewUnit ∷ Number 1 4294967295 ∷ Number 1 1024 ∷ UnitFlags false false false ∷ []
 slots lines.PlanLine = KnownHost ∷ KnownUnit ∷ AnyFault ∷ []
 slots lines.CommandLine =
     NewCommand ∷ KnownHost ∷ Number 0 63 ∷ KnownUnit ∷ Number 1 10000 ∷ Number 0 20 ∷ FailFast ∷ Bytes 16 ∷ Fill ∷ []
@@ -115,11 +115,16 @@ is_read_only word = bytes_eq word (codes "ro")
 abbrev pub is_stopped : List ℕ → Bool
 is_stopped word = bytes_eq word (codes "stopped")
 
--- the flags of a unit; behind both a third may stand in a script, which can't be read yet, so no word is too many
-abbrev pub unit_flag_fault : Bool → Bool → List ℕ → Option Kind
-unit_flag_fault ro stopped word =
+abbrev pub is_scan : List ℕ → Bool
+is_scan word = bytes_eq word (codes "scan")
+
+-- the flags of a unit: one again is Twice; another word is too many behind all three
+abbrev pub unit_flag_fault : Bool → Bool → Bool → List ℕ → Option Kind
+unit_flag_fault ro stopped scan word =
     if is_read_only word then unless_true kinds.Twice (not ro)
     else if is_stopped word then unless_true kinds.Twice (not stopped)
+    else if is_scan word then unless_true kinds.Twice (not scan)
+    else if ro && stopped && scan then Some kinds.Extra
     else Some kinds.Word
 
 -- what is wrong with a word at its place, on a line of this host
@@ -132,7 +137,7 @@ slot_fault said host Callbacks word = choice_fault kinds.Word handlers word
 slot_fault said host (NoAsync has) word = noasync_fault has (bytes_eq word (codes "noasync"))
 slot_fault said host NewUnit word = new_unit_fault host word
 slot_fault said host KnownUnit word = unit_fault host word
-slot_fault said host (UnitFlags ro stopped) word = unit_flag_fault ro stopped word
+slot_fault said host (UnitFlags ro stopped scan) word = unit_flag_fault ro stopped scan word
 slot_fault said host NewCommand word = new_command_fault said word
 slot_fault said host KnownLane word = lane_fault host word
 slot_fault said host FailFast word = choice_fault kinds.Word failfast word
@@ -158,14 +163,14 @@ abbrev pub behind : Slot → List ℕ → List Slot → List Slot
 behind AnyFault word slots = Number 1 65535 ∷ Number 1 65535 ∷ Number 1 65535 ∷ some_fault_slots (plan_kind word)
 behind AnyStep word slots = step_slots (step_name word)
 behind (NoAsync has) word slots = NoAsync true ∷ []
-behind (UnitFlags ro stopped) word slots = UnitFlags (ro || is_read_only word) (stopped || is_stopped word) ∷ []
+behind (UnitFlags ro stopped scan) word slots = UnitFlags (ro || is_read_only word) (stopped || is_stopped word) (scan || is_scan word) ∷ []
 behind _ word slots = slots
 
 -- the line ends before these places
 abbrev pub end_fault : List Slot → Option Kind
 end_fault [] = None
 end_fault (NoAsync has ∷ slots) = None
-end_fault (UnitFlags ro stopped ∷ slots) = None
+end_fault (UnitFlags ro stopped scan ∷ slots) = None
 end_fault (Fill ∷ slots) = None
 end_fault (_ ∷ slots) = Some kinds.Missing
 

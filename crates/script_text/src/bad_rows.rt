@@ -93,7 +93,7 @@ pub const HOST_LINES: [(&str, u8); 25] = [
 ];
 
 /// Second lines, behind `host 0 4 adtbh`.
-pub const UNIT_LINES: [(&str, u8); 34] = [
+pub const UNIT_LINES: [(&str, u8); 37] = [
     ("lun", 3),
     ("lun x", 2),
     ("lun 64", 8),
@@ -121,12 +121,15 @@ pub const UNIT_LINES: [(&str, u8); 34] = [
     ("lun 0 0:0:0 8 1025", 8),
     ("lun 0 0:0:0 8 8 x", 1),
     ("lun 0 0:0:0 8 8 RO", 1),
-    ("lun 0 0:0:0 8 8 scan", 1),
+    ("lun 0 0:0:0 8 8 scans", 1),
     ("lun 0 0:0:0 8 8 ro ro", 6),
     ("lun 0 0:0:0 8 8 stopped ro stopped", 6),
     ("lun 0 0:0:0 8 8 ro stopped ro", 6),
-    ("lun 0 0:0:0 8 8 ro stopped scan", 1),
-    ("lun 0 0:0:0 8 8 ro scan ro", 1),
+    ("lun 0 0:0:0 8 8 scan scan", 6),
+    ("lun 0 0:0:0 8 8 scan stopped ro scan", 6),
+    ("lun 0 0:0:0 8 8 ro scan ro", 6),
+    ("lun 0 0:0:0 8 8 ro scan x", 1),
+    ("lun 0 0:0:0 8 8 stopped ro scan x", 4),
     ("lun 0 0:0:0 8 8 ro stopped x", 1),
 ];
 

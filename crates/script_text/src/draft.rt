@@ -2,12 +2,13 @@ ghost use Rattle.std.specs.Ordering.{nat_cmp};
 ghost use Rattle.std.specs.BTreeSet.{insert_key};
 ghost use Rattle.std.specs.Prelude.{◌≡◌, ◌+◌, ◌<◌, ◌++◌, ◌∷◌, [], option_copied, OnOk, Some};
 ghost use Rattle.script_text.specs.Said.{nothing, host_of, is_id, on_host, with_unit, with_planned, with_command};
+ghost use Rattle.script_text.specs.Adds.{with_scan};
 ghost use Rattle.script_text.specs.Script.{keyword_fault};
 ghost use Rattle.script_text.specs.Gives.{seen};
 
 use crate::host_draft::HostDraft;
 use crate::hosts::{command_onto, fault_onto, unit_onto};
-use mid_base::{CmdId, CmdSpec, HostNo, LunSpec, NoMemory, PlanEntry, Step};
+use mid_base::{CmdId, CmdSpec, DevAddr, HostNo, LunSpec, NoMemory, PlanEntry, Step};
 use script_words::{Keyword, Kind};
 use std::alloc::Global;
 use std::collections::BTreeSet;
@@ -18,6 +19,7 @@ pub struct Draft {
     pub alloc: Global,
     pub line: u64,
     pub hosts: Vec<HostDraft>,
+    pub scans: Vec<(HostNo, DevAddr)>,
     pub ids: BTreeSet<u32>,
     pub plans: usize,
     pub steps: Vec<(u64, HostNo, Step)>,
@@ -34,6 +36,7 @@ impl Draft {
             alloc,
             line: 0,
             hosts: Vec::new(alloc),
+            scans: Vec::new(alloc),
             ids: BTreeSet::new(alloc),
             plans: 0,
             steps: Vec::new(alloc),
@@ -86,11 +89,26 @@ impl Draft {
         }
     }
 
-    /// Adds a unit to the host with this number.
-    pub fn add_unit(&mut self, no: HostNo, unit: LunSpec) -> Result<(), NoMemory>
-        ensures { OnOk result (seen self.new ≡ record (seen self.old) { hosts = on_host no.0 (with_unit unit) (seen self.old).hosts }) }
+    /// Adds a unit to the host with this number; its device may be one that is found by scanning.
+    pub fn add_unit(&mut self, no: HostNo, unit: LunSpec, scan: bool) -> Result<(), NoMemory>
+        ensures { OnOk result (seen self.new ≡ record (seen self.old) { hosts = on_host no.0 (with_unit unit) (seen self.old).hosts; scans = with_scan scan (no, unit.dev) (seen self.old).scans }) }
     {
-        unit_onto(&mut self.hosts, no, unit)
+        let dev = unit.dev;
+        unit_onto(&mut self.hosts, no, unit)?;
+        self.note_scan(no, dev, scan)
+    }
+
+    // Notes a device that is found by scanning, if it is.
+    fn note_scan(&mut self, no: HostNo, dev: DevAddr, scan: bool) -> Result<(), NoMemory>
+        ensures { OnOk result (seen self.new ≡ record (seen self.old) { scans = with_scan scan (no, dev) (seen self.old).scans }) }
+    {
+        if !scan {
+            return Ok(());
+        }
+        match self.scans.push((no, dev)) {
+            Ok(()) => Ok(()),
+            Err(_) => Err(NoMemory),
+        }
     }
 
     /// Adds a planned fault to the host with this number.

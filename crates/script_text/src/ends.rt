@@ -1,4 +1,4 @@
-ghost use Rattle.std.specs.Prelude.{Option, false};
+ghost use Rattle.std.specs.Prelude.{◌≡◌, ◌&&◌, if◌then◌else◌, Option, false};
 ghost use Rattle.mid_base.specs.declared.host_spec.HostSpec.{HostSpec};
 ghost use Rattle.script_words.specs.Pieces.{words};
 ghost use Rattle.script_text.specs.Said.{Said};
@@ -57,12 +57,14 @@ pub fn fill_in(rest: Words) -> Result<u8, Kind>
 pub struct UnitFlags {
     pub read_only: bool,
     pub stopped: bool,
+    /// The device is found by scanning.
+    pub scan: bool,
 }
 
 impl UnitFlags {
     /// With the flag that this word is.
     fn with(self, word: &[u8]) -> Result<UnitFlags, Kind>
-        ensures { FlagsGive self.read_only self.stopped word.now result }
+        ensures { FlagsGive self word.now result }
     {
         if word == b"ro".as_slice() {
             if self.read_only {
@@ -70,7 +72,7 @@ impl UnitFlags {
             }
             return Ok(UnitFlags {
                 read_only: true,
-                stopped: self.stopped,
+                ..self
             });
         }
         if word == b"stopped".as_slice() {
@@ -78,11 +80,28 @@ impl UnitFlags {
                 return Err(Kind::Twice);
             }
             return Ok(UnitFlags {
-                read_only: self.read_only,
                 stopped: true,
+                ..self
             });
         }
-        Err(Kind::Word)
+        if word == b"scan".as_slice() {
+            if self.scan {
+                return Err(Kind::Twice);
+            }
+            return Ok(UnitFlags { scan: true, ..self });
+        }
+        Err(self.barred())
+    }
+
+    /// What another word is behind these flags.
+    fn barred(self) -> Kind
+        ensures { result ≡ (if self.read_only && self.stopped && self.scan then Kind.Extra else Kind.Word) }
+    {
+        if self.read_only && self.stopped && self.scan {
+            Kind::Extra
+        } else {
+            Kind::Word
+        }
     }
 }
 
@@ -94,6 +113,7 @@ pub fn unit_flags_in(rest: Words) -> Result<UnitFlags, Kind>
     let mut flags = UnitFlags {
         read_only: false,
         stopped: false,
+        scan: false,
     };
     while let Some(word) = words.next() {
         flags = flags.with(word)?;

@@ -8,7 +8,7 @@
 //! | line | what it says |
 //! |---|---|
 //! | `host H CANQ HANDLERS [noasync]` | Host H, 0 to 63, takes CANQ commands at once, 1 to 1,024. HANDLERS names the callbacks of recovery that it has (`scsi_eh.rst`, "How SCSI EH works"): letters of `adtbh`, for abort and for device, target, bus and host reset, each at most once and in this order, or `-` for none. With `noasync` it makes no asynchronous aborts. |
-//! | `lun H ADDR BLOCKS DEPTH [FLAGS]` | That host has a logical unit of BLOCKS blocks, 1 to 4,294,967,295, which takes DEPTH commands at once, 1 to 1,024. ADDR is `C:T:L`: channel 0 to 15, target 0 to 255, logical unit number 0 to 16,383. FLAGS, each at most once: `ro`, it is write protected; `stopped`, it isn't started. |
+//! | `lun H ADDR BLOCKS DEPTH [FLAGS]` | That host has a logical unit of BLOCKS blocks, 1 to 4,294,967,295, which takes DEPTH commands at once, 1 to 1,024. ADDR is `C:T:L`: channel 0 to 15, target 0 to 255, logical unit number 0 to 16,383. FLAGS, each at most once: `ro`, it is write protected; `stopped`, it isn't started; `scan`, its device is found by scanning. |
 //! | `plan H ADDR KIND FIRST EVERY USES [VALUES]` | A fault of that unit hits the calls number FIRST, FIRST + EVERY and so on, USES of them; these three are 1 to 65,535. KIND with its VALUES is one of `Fault`: `hostbusy`, `busy`, `latency N` (1 to 10,000 ticks), `never`, `check KEY ASC ASCQ`, `nosense KEY ASC ASCQ`, `raw HEX` (1 to 252 bytes), `status HOST STATUS`, `longer`, `timerdone`, `abortfail`, `rdev`, `rtgt`, `rbus`, `rhost`, `silent`. KEY is one hexadecimal digit; ASC, ASCQ, HOST and STATUS are two. |
 //! | `cmd ID H LANE ADDR TIMEOUT ALLOWED FLAG CDB [FILL]` | Command ID, 1 to 4,294,967,295, in a lane, 0 to 63, of that host, for that unit, with a timeout of TIMEOUT ticks, 1 to 10,000, and ALLOWED retries, 0 to 20. FLAG is `failfast` where it is to fail at the first error, else `-`. CDB is 1 to 16 bytes in hexadecimal digits; FILL is the byte that a write sends throughout, in two. |
 //! | `step H WORDS` | A step of that host. WORDS is `submit LANE`, of a lane that has commands, `send`, `work`, `due`, `own N answer`, `own N expiry`, `settle N`, `drop N`, `abort`, `eh begin`, `eh act`, `eh flush`, `eh end`, `tick` or `state ADDR NAME`; N, below 2^60, is an attempt, and NAME is `running`, `quiesce`, `block`, `offline`, `cancel` or `del`. |
@@ -24,8 +24,6 @@
 //! too many is told by the number of its host. Where a line may end, a flag that it has already is `Twice`, and another word
 //! `Word` or, where none may stand, `Extra`. A script has 16,777,216 bytes at most: the line that has the byte after these is
 //! bad whatever its words are. Without an `end` line the line behind the last one is bad.
-//!
-//! Scanning can't be said yet: `scan` as a flag of a unit is a word that may not stand where it would.
 #![tactic(auto)]
 
 #[cfg(test)]

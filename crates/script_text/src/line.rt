@@ -1,6 +1,7 @@
 ghost use Rattle.std.specs.Prelude.{◌≡◌, ◌<◌};
 ghost use Rattle.script_words.specs.Pieces.{words};
 ghost use Rattle.script_words.specs.declared.keywords.Keyword.TheVariants.{HostLine, LunLine, PlanLine, StepLine, BudgetLine, EndLine};
+ghost use Rattle.script_text.specs.Adds.{start_state};
 ghost use Rattle.script_text.specs.Script.{judge, judge_slots};
 ghost use Rattle.script_text.specs.Gives.{seen, Judges};
 
@@ -92,9 +93,20 @@ fn lun_line(draft: &mut Draft, rest: Words) -> Result<(), LineFault>
         depth: depth as u16,
         read_only: flags.read_only,
         stopped: flags.stopped,
-        start: DeviceState::Running,
+        start: start_state(flags.scan),
     };
-    draft.add_unit(no, unit).map_err(memory)
+    draft.add_unit(no, unit, flags.scan).map_err(memory)
+}
+
+/// Where a device starts; one that is found by scanning has to be looked for first.
+fn start_state(scan: bool) -> DeviceState
+    ensures { result ≡ start_state scan }
+{
+    if scan {
+        DeviceState::Created
+    } else {
+        DeviceState::Running
+    }
 }
 
 fn plan_line(draft: &mut Draft, rest: Words) -> Result<(), LineFault>

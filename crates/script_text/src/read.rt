@@ -43,6 +43,7 @@ fn whole(draft: Draft, line: u64) -> Result<Script, ReadEnd>
     let Draft {
         alloc,
         hosts,
+        scans,
         steps,
         budget,
         ended,
@@ -56,7 +57,7 @@ fn whole(draft: Draft, line: u64) -> Result<Script, ReadEnd>
         Err(_) => Err(ReadEnd::NoMemory),
         Ok(hosts) => Ok(Script {
             hosts,
-            scans: Rows::new(alloc),
+            scans: Rows::from_vec(scans),
             steps: Rows::from_vec(steps),
             budget,
             drain,

@@ -5,7 +5,8 @@ use mid_base::{DevAddr, HostNo, HostSpec, Rows, Step};
 pub struct Script {
     /// The hosts, in the order of their lines.
     pub hosts: Rows<HostSpec>,
-    /// The devices that are found by scanning. There are none yet.
+    /// The devices that are found by scanning, in the order of their lines. In the hosts they start in Created, until they are
+    /// looked for.
     pub scans: Rows<(HostNo, DevAddr)>,
     /// The steps, each with the number of its line, counted from 1, and its host.
     pub steps: Rows<(u64, HostNo, Step)>,
