@@ -1,10 +1,10 @@
 -- A round, and a number of rounds, come to one journal.
-use Rattle.std.proofs.Common.{◌≡◌, ℕ, zero, suc, Bool, true, false, List, refl, sym, ◌∙◌, subst}
+use Rattle.std.proofs.Common.{◌≡◌, ℕ, zero, suc, Bool, true, false, List, sym, ◌∙◌, subst}
 use Rattle.mid_base.specs.declared.entries.Entry.{Entry}
 use Rattle.mid_base.specs.declared.host_spec.HostSpec.{HostSpec}
 use Rattle.mid_base.specs.declared.steps.Step.TheVariants as step
 use Rattle.host_template.specs.Standing.{Before}
-use Rattle.drain_rounds.specs.Rounds.{Drains, Passes, PassesTime, Round, Where, is_drained, phases}
+use Rattle.drain_rounds.specs.Rounds.{Drains, PassesTime, Round, Where, is_drained, phases}
 use Rattle.ran_laws.proofs.Steps.{comes_one}
 use Rattle.ran_laws.proofs.Phases.{passes_one}
 

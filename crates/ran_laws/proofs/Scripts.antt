@@ -6,7 +6,7 @@ use Rattle.mid_base.specs.declared.host_spec.HostSpec.{HostSpec}
 use Rattle.script_text.specs.declared.script.Script.{Script}
 use Rattle.script_text.specs.Playable.{IsPlayable, differ_in_number}
 use Rattle.drain_rounds.specs.Making.{HostRun}
-use Rattle.play_sched.specs.Played.{DrainEach, Ran, RunOn, most_rounds}
+use Rattle.play_sched.specs.Played.{DrainEach, RunOn, most_rounds}
 use Rattle.play_sched.specs.Runs.{all_drained, specs_of, unplayed}
 use Rattle.ran_laws.specs.Outcome.{ComesOut, Outcome}
 use Rattle.ran_laws.proofs.Rounds.{drains_one}
