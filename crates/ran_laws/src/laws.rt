@@ -8,6 +8,7 @@ ghost use Rattle.script_text.specs.declared.script.Script.{Script};
 ghost use Rattle.script_text.specs.Playable.{IsPlayable};
 ghost use Rattle.drain_rounds.specs.Making.{Comes};
 ghost use Rattle.drain_rounds.specs.Rounds.{Drains, Exhausts, Phase, Round};
+ghost use Rattle.ran_laws.specs.Counted.{DrainsIn};
 ghost use Rattle.ran_laws.specs.Outcome.{ComesOut, Outcome};
 
 // Here P, Q and R are what a journal holds, the newest entry first.
@@ -33,6 +34,12 @@ pub fn a_round_comes_to_one_journal()
 /// At most so many rounds, until the host is drained, come to one journal.
 pub fn rounds_come_to_one_journal()
     ensures { (most : ℕ) (s : HostSpec) (b : Before) (P Q R : List Entry) → Drains most s b P Q → Drains most s b P R → Q ≡ R }
+{}
+
+/// Each host that is run on makes one number of rounds.
+pub fn rounds_are_counted()
+    ensures made { (most : ℕ) (s : HostSpec) (b : Before) (P Q : List Entry) → Drains most s b P Q → (n : ℕ) × DrainsIn n most s b P Q }
+    ensures one { (n m most : ℕ) (s : HostSpec) (b : Before) (P Q R : List Entry) → DrainsIn n most s b P Q → DrainsIn m most s b P R → n ≡ m }
 {}
 
 /// A playable script comes to one outcome: the same journals, the same skipped lines, and the same answer whether its rounds

@@ -9,5 +9,5 @@ mod laws;
 
 pub use laws::{
     a_phase_comes_to_one_journal, a_playable_script_has_one_outcome, a_round_comes_to_one_journal,
-    a_step_comes_to_one_journal, rounds_come_to_one_journal,
+    a_step_comes_to_one_journal, rounds_are_counted, rounds_come_to_one_journal,
 };
