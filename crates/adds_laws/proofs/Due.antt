@@ -3,7 +3,7 @@ use Rattle.std.proofs.Common.{◌≡◌, Bool, true, false, List, refl, sym, ◌
 use Rattle.mid_base.specs.declared.host_spec.HostSpec.{HostSpec}
 use Rattle.mid_base.specs.declared.entries.Entry.{Entry}
 use Rattle.host_template.specs.Standing.{Before}
-use Rattle.adds_laws.specs.Making.{IsDueAfter}
+use Rattle.drain_rounds.specs.Making.{IsDueAfter}
 
 pub due_once : (s : HostSpec) (b : Before) (P : List Entry) (x y : Bool) → IsDueAfter s b P x → IsDueAfter s b P y → x ≡ y
 due_once s b P true true d e = refl

@@ -6,7 +6,7 @@ ghost use Rattle.host_template.specs.Standing.{Before};
 ghost use Rattle.trace_model.specs.Legal.{onto};
 ghost use Rattle.debug_adapter.specs.LowerRun.{LowerRun};
 ghost use Rattle.mid_core.specs.Steps.{AddsTo};
-ghost use Rattle.adds_laws.specs.Making.{IsDueAfter};
+ghost use Rattle.drain_rounds.specs.Making.{IsDueAfter};
 
 // Here P is what a journal holds, the newest entry first.
 
