@@ -1,5 +1,8 @@
 -- A script comes to one outcome.
-use Rattle.std.proofs.Common.{◌≡◌, ℕ, Bool, true, false, not, ◌&&◌, List, [], ◌∷◌, map, refl, sym, ap, ap₂, ◌∙◌, subst}
+use Rattle.std.proofs.Common.{◌≡◌, ◌==◌, ℕ, Bool, true, false, not, ◌&&◌, ◌||◌, List, [], ◌∷◌, map, refl, sym, ap, ap₂, ◌∙◌, subst}
+use Rattle.std.specs.List.{list_any}
+use Rattle.mid_base.specs.declared.names.DevAddr.{DevAddr}
+use Rattle.mid_base.specs.declared.names.HostNo.{HostNo}
 use Rattle.mid_base.specs.declared.entries.Entry.{Entry}
 use Rattle.mid_base.specs.declared.steps.Why.{Why}
 use Rattle.mid_base.specs.declared.host_spec.HostSpec.{HostSpec}
@@ -23,9 +26,15 @@ run_on_one : (drains : Bool) (most : ℕ) (old new also : List HostRun) → RunO
 run_on_one false most old new also x y = x ∙ sym y
 run_on_one true most old new also x y = each_one most old new also x y
 
-specs_unplayed : (hosts : List HostSpec) → specs_of (map unplayed hosts) ≡ hosts
-specs_unplayed [] = refl
-specs_unplayed (h ∷ hosts) = ap (λ (hs : List HostSpec). h ∷ hs) (specs_unplayed hosts)
+-- scanning leaves the numbers of hosts as they are
+number_found : (scans : List (HostNo × DevAddr)) (hosts : List HostSpec) (n : ℕ)
+    → list_any (λ (g : HostSpec). g.no.0 == n) (specs_of (map (unplayed scans) hosts)) ≡ list_any (λ (g : HostSpec). g.no.0 == n) hosts
+number_found scans [] n = refl
+number_found scans (h ∷ hosts) n = ap (λ (b : Bool). (h.no.0 == n) || b) (number_found scans hosts n)
+
+numbers_found : (scans : List (HostNo × DevAddr)) (hosts : List HostSpec) → differ_in_number (specs_of (map (unplayed scans) hosts)) ≡ differ_in_number hosts
+numbers_found scans [] = refl
+numbers_found scans (h ∷ hosts) = ap₂ (λ (b c : Bool). not b && c) (number_found scans hosts h.no.0) (numbers_found scans hosts)
 
 same : (o q : Outcome) → o.runs ≡ q.runs → o.skips ≡ q.skips → o.short ≡ q.short → o ≡ q
 same o q runs skips short =
@@ -35,8 +44,9 @@ same o q runs skips short =
 
 pub outcome_one : (script : Script) (one other : Outcome) → IsPlayable script → ComesOut script one → ComesOut script other → one ≡ other
 outcome_one script one other playable x y =
-    let differ : differ_in_number (specs_of (map unplayed script.hosts)) ≡ true = ap differ_in_number (specs_unplayed script.hosts) ∙ playable.numbers in
-    let lines = plays_one script.steps (map unplayed script.hosts) x.mid y.mid one.skips other.skips differ x.steps y.steps in
+    let start = map (unplayed script.scans) script.hosts in
+    let differ : differ_in_number (specs_of start) ≡ true = numbers_found script.scans script.hosts ∙ playable.numbers in
+    let lines = plays_one script.steps start x.mid y.mid one.skips other.skips differ x.steps y.steps in
     let most = most_rounds script in
     let runs : one.runs ≡ other.runs =
     run_on_one script.drain most x.mid one.runs other.runs x.rounds
