@@ -12,7 +12,7 @@ import sys
 from collections import namedtuple
 
 Answer = namedtuple("Answer", "host status moved sum sense")
-Unit = namedtuple("Unit", "dev depth")
+Unit = namedtuple("Unit", "dev depth start")
 Command = namedtuple("Command", "id lane dev timeout allowed failfast")
 Host = namedtuple("Host", "number tags handlers noasync units commands")
 Script = namedtuple("Script", "hosts steps drains")
@@ -172,9 +172,24 @@ def read_text(lines):
     return Printed(journals, results, skips)
 
 
+def is_found(host, dev, silent):
+    """Whether the target of a device tells its units to a scan: its logical unit 0 answers the first two commands that it is sent."""
+    zero = (*dev[:2], 0)
+    if not any(unit.dev == zero for unit in host.units):
+        return False
+    hits = (range(first, first + every * uses, every) for unit, first, every, uses in silent if unit == zero)
+    return not any(n in hit for hit in hits for n in (1, 2))
+
+
+def scanned(host, silent):
+    """The host with its units in the states that a scan of their targets leaves them in."""
+    starts = ["running" if u.start != "created" or is_found(host, u.dev, silent) else "del" for u in host.units]
+    return host._replace(units=[unit._replace(start=start) for unit, start in zip(host.units, starts)])
+
+
 def read_script(lines):
-    """The hosts of a good script and its step lines."""
-    hosts, steps, drains = {}, [], False
+    """The hosts of a good script, scanned, and its step lines."""
+    hosts, silent, steps, drains = {}, {}, [], False
     for number, line in enumerate(lines, 1):
         words = line.split()
         if not words or words[0].startswith("#"):
@@ -182,7 +197,10 @@ def read_script(lines):
         if words[0] == "host":
             hosts[int(words[1])] = Host(int(words[1]), int(words[2]), words[3], "noasync" in words[4:], [], [])
         elif words[0] == "lun":
-            hosts[int(words[1])].units.append(Unit(address(words[2]), int(words[4])))
+            start = "created" if "scan" in words[5:] else "running"
+            hosts[int(words[1])].units.append(Unit(address(words[2]), int(words[4]), start))
+        elif words[0] == "plan" and words[3] == "silent":
+            silent.setdefault(int(words[1]), []).append((address(words[2]), *map(int, words[4:7])))
         elif words[0] == "cmd":
             command = Command(int(words[1]), int(words[3]), address(words[4]), int(words[5]), int(words[6]), words[7] != "-")
             hosts[int(words[2])].commands.append(command)
@@ -190,7 +208,7 @@ def read_script(lines):
             steps.append((number, int(words[1]), words[2:]))
         elif words[0] == "end":
             drains = words[1] == "drain"
-    return Script(hosts, steps, drains)
+    return Script({no: scanned(host, silent.get(no, [])) for no, host in hosts.items()}, steps, drains)
 
 
 # ---- what a journal says
@@ -215,7 +233,7 @@ class Journal:
         self.host = host
         self.commands = {k.id: k for k in host.commands}
         self.stands = {k.id: Standing() for k in host.commands}
-        self.states = {u.dev: "running" for u in host.units}
+        self.states = {u.dev: u.start for u in host.units}
         self.most = {u.dev: u.depth for u in host.units}
         self.depths = {u.dev: (u.depth, 0) for u in host.units}
         self.attempts, self.late, self.ticks = {}, {}, 0
