@@ -5,6 +5,7 @@ usage: measure.py LAUNCHER PROGRAM [OTHER]
 The runs of all scripts take turns, three rounds of them, and each figure is the best of the three. The status is 1 where a
 command of a longer script takes more than so many times as long as one of the shorter script of its kind.
 """
+import os
 import subprocess
 import sys
 import tempfile
@@ -21,11 +22,23 @@ GROWING = [
 ]
 
 
-def play(launcher, program, path, wanted):
+# The name of a run that reads no script, its commands, and the program's words.
+MADE = ("20,000 made", 20_000, ["--make", "20000"])
+
+
+def good_in(text):
+    """How many commands were answered GOOD, by result lines or by a summary."""
+    lines = text.splitlines()
+    if lines[0].startswith(b"commands "):
+        return int(lines[0].split()[3])
+    return sum(line.startswith(b"result") and b" answered 00 00 " in line for line in lines)
+
+
+def play(launcher, program, path, wanted, words):
     """The seconds of one run, and the most memory that it had, in MiB."""
     with open(path) as source:
-        run = subprocess.run([launcher, program], stdin=source, capture_output=True)
-    answered = sum(line.startswith(b"result") and b" answered 00 00 " in line for line in run.stdout.splitlines())
+        run = subprocess.run([launcher, program, *words], stdin=source, capture_output=True)
+    answered = good_in(run.stdout)
     seconds, kib, status = run.stderr.split()[-3:]
     if int(status) != 0:
         sys.exit(f"bench: the program ended with {int(status)}")
@@ -38,9 +51,9 @@ def measure(launcher, programs, files):
     """The best run of each program over each script."""
     best = {}
     for _ in range(ROUNDS):
-        for name, path, count in files:
+        for name, path, count, words in files:
             for program in programs:
-                run = play(launcher, program, path, count)
+                run = play(launcher, program, path, count, words)
                 best[name, program] = min(run, best.get((name, program), run))
     return best
 
@@ -48,10 +61,11 @@ def measure(launcher, programs, files):
 def main():
     launcher, program, *others = sys.argv[1:]
     with tempfile.TemporaryDirectory() as folder:
-        files = scripts.write_all(folder)
+        files = [(*written, []) for written in scripts.write_all(folder)]
+        files.append((MADE[0], os.devnull, *MADE[1:]))
         best = measure(launcher, [program, *others], files)
     each = {}
-    for name, _, count in files:
+    for name, _, count, _ in files:
         seconds, memory = best[name, program]
         each[name] = seconds / count
         beside = "".join(f", {best[name, other][0] / seconds:.2f} times by Rattle's compiler" for other in others)
