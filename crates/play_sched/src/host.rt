@@ -5,9 +5,8 @@ ghost use Rattle.drain_rounds.specs.Rounds.{earlier, is_stopped};
 ghost use Rattle.disposition.specs.Ladder.{address};
 
 use debug_adapter::DebugAdapter;
-use mid_base::{
-    Attempt, By, DevAddr, DeviceState, Did, Entry, HostSpec, NoMemory, Rows, Step, Tag, Why,
-};
+use host_scan::{ScannedHost, scan_host};
+use mid_base::{Attempt, By, DevAddr, DeviceState, Did, Entry, HostSpec, NoMemory, Step, Tag, Why};
 use mid_core::Core;
 use std::alloc::Global;
 use std::marker::Model;
@@ -37,13 +36,17 @@ impl Host {
     ghost use Rattle.play_sched.specs.Runs.{IsRun, unplayed};
     ghost use Rattle.play_sched.specs.Rest.{GoesOn, IsFirstClaim, stops_none};
 
-    /// A host to which nothing has happened yet, and whose units nothing has probed.
-    pub fn new(alloc: Global, spec: HostSpec) -> Result<Host, NoMemory>
+    /// A host to which nothing has happened yet but that its targets with these devices were scanned.
+    pub fn new(alloc: Global, spec: HostSpec, devices: &[DevAddr]) -> Result<Host, NoMemory>
         requires { KeepsLimits spec }
-        ensures { IfOk result (λ host. host ≡ unplayed spec) }
+        ensures { IfOk result (λ host. host ≡ unplayed devices.now spec) }
     {
-        let lower = DebugAdapter::new(alloc, &spec)?;
-        let core = Core::new(alloc, spec, Rows::new(alloc), lower)?;
+        let ScannedHost {
+            spec,
+            before,
+            lower,
+        } = scan_host(alloc, spec, devices)?;
+        let core = Core::new(alloc, spec, before, lower)?;
         Ok(Host { core })
     }
 
