@@ -1,11 +1,10 @@
-ghost use Rattle.std.specs.Prelude.{◌≡◌, ◌==◌, [], map, IfOk};
+ghost use Rattle.std.specs.Prelude.{◌≡◌, ◌==◌, [], map, IfOk, true, if◌then◌else◌};
 ghost use Rattle.std.specs.List.{list_any};
 ghost use Rattle.mid_base.specs.Address.{has_dev};
 ghost use Rattle.mid_base.specs.Limits.{KeepsLimits};
 ghost use Rattle.debug_adapter.specs.Adapter.{AdapterStands};
-ghost use Rattle.host_scan.specs.Targets.{zero_of};
+ghost use Rattle.host_scan.specs.Targets.{targets_of, zero_of};
 ghost use Rattle.host_scan.specs.Found.{probed_before};
-ghost use Rattle.host_scan.specs.Targets.{targets_of};
 ghost use Rattle.host_scan.specs.Findings.{ScansTo, finding_of, lists, probes_until, told};
 
 use crate::target::{Target, targets_of};
@@ -26,6 +25,13 @@ pub(crate) struct Finding {
 }
 
 impl Finding {
+    /// The unit 0 that was scanned, and how many probes it was sent.
+    pub(crate) fn told(&self) -> (DevAddr, u32)
+        ensures { result ≡ told self.now }
+    {
+        (self.target.zero(), self.probes)
+    }
+
     /// Whether it has this device.
     pub(crate) fn lists(&self, dev: DevAddr) -> bool
         ensures { result ≡ lists dev self.now }

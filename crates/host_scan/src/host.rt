@@ -1,4 +1,4 @@
-ghost use Rattle.std.specs.Prelude.{◌≡◌, [], map, IfOk};
+ghost use Rattle.std.specs.Prelude.{◌≡◌, [], map, IfOk, if◌then◌else◌};
 ghost use Rattle.std.specs.List.{list_any};
 ghost use Rattle.mid_base.specs.Address.{same_dev as same_dev_seen};
 ghost use Rattle.mid_base.specs.Limits.{KeepsLimits};
@@ -41,7 +41,7 @@ pub fn scan_host(
     let mut lower = DebugAdapter::new(alloc, &spec)?;
     let findings = scan_targets(alloc, &spec, devices, &mut lower)?;
     let before = probes_told(alloc, &findings)?;
-    let spec = with_findings(spec, devices, &findings);
+    let spec = with_findings(alloc, spec, devices, &findings)?;
     Ok(ScannedHost {
         spec,
         before,
@@ -53,27 +53,41 @@ pub fn scan_host(
 fn probes_told(alloc: Global, findings: &[Finding]) -> Result<Rows<(DevAddr, u32)>, NoMemory>
     ensures { IfOk result (λ rows. rows ≡ map told findings.now) }
 {
-    let mut probes = Vec::new(alloc);
-    for finding in findings {
-        match probes.push((finding.target.zero(), finding.probes)) {
-            Ok(()) => {}
-            Err(_) => return Err(NoMemory),
-        }
+    match findings.iter().map(|finding| finding.told()).collect(alloc) {
+        Ok(probes) => Ok(Rows::from_vec(probes)),
+        Err(_) => Err(NoMemory),
     }
-    Ok(Rows::from_vec(probes))
 }
 
 // The spec, where each of these devices starts as it was found.
-fn with_findings(spec: HostSpec, devices: &[DevAddr], findings: &[Finding]) -> HostSpec
-    ensures { result ≡ record spec { luns = map (unit_by devices.now findings.now) spec.luns } }
+fn with_findings(
+    alloc: Global,
+    spec: HostSpec,
+    devices: &[DevAddr],
+    findings: &[Finding],
+) -> Result<HostSpec, NoMemory>
+    ensures { IfOk result (λ s. s ≡ record spec { luns = map (unit_by devices.now findings.now) spec.luns }) }
 {
-    let mut spec = spec;
-    let mut units = spec.luns.into_vec();
-    for unit in units.iter_mut() {
-        *unit = unit_with(*unit, devices, findings);
+    let units = units_with(alloc, spec.luns.as_slice(), devices, findings)?;
+    Ok(HostSpec {
+        luns: Rows::from_vec(units),
+        ..spec
+    })
+}
+
+fn units_with(
+    alloc: Global,
+    units: &[LunSpec],
+    devices: &[DevAddr],
+    findings: &[Finding],
+) -> Result<Vec<LunSpec>, NoMemory>
+    ensures { IfOk result (λ v. v.items ≡ map (unit_by devices.now findings.now) units.now) }
+{
+    let found = units.iter().map(|unit| unit_with(*unit, devices, findings));
+    match found.collect(alloc) {
+        Ok(units) => Ok(units),
+        Err(_) => Err(NoMemory),
     }
-    spec.luns = Rows::from_vec(units);
-    spec
 }
 
 fn unit_with(unit: LunSpec, devices: &[DevAddr], findings: &[Finding]) -> LunSpec

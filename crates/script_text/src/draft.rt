@@ -2,6 +2,7 @@ ghost use Rattle.std.specs.Ordering.{nat_cmp};
 ghost use Rattle.std.specs.BTreeSet.{insert_key};
 ghost use Rattle.std.specs.Prelude.{◌≡◌, ◌+◌, ◌<◌, ◌++◌, ◌∷◌, [], option_copied, OnOk, Some};
 ghost use Rattle.script_text.specs.Said.{nothing, host_of, is_id, on_host, with_unit, with_planned, with_command};
+ghost use Rattle.script_text.specs.Adds.{with_scan};
 ghost use Rattle.script_text.specs.Script.{keyword_fault};
 ghost use Rattle.script_text.specs.Gives.{seen};
 
@@ -88,17 +89,22 @@ impl Draft {
         }
     }
 
-    /// Adds a unit to the host with this number.
-    pub fn add_unit(&mut self, no: HostNo, unit: LunSpec) -> Result<(), NoMemory>
-        ensures { OnOk result (seen self.new ≡ record (seen self.old) { hosts = on_host no.0 (with_unit unit) (seen self.old).hosts }) }
+    /// Adds a unit to the host with this number; its device may be one that is found by scanning.
+    pub fn add_unit(&mut self, no: HostNo, unit: LunSpec, scan: bool) -> Result<(), NoMemory>
+        ensures { OnOk result (seen self.new ≡ record (seen self.old) { hosts = on_host no.0 (with_unit unit) (seen self.old).hosts; scans = with_scan scan (no, unit.dev) (seen self.old).scans }) }
     {
-        unit_onto(&mut self.hosts, no, unit)
+        let dev = unit.dev;
+        unit_onto(&mut self.hosts, no, unit)?;
+        self.note_scan(no, dev, scan)
     }
 
-    /// Adds a device of the host with this number that is found by scanning.
-    pub fn add_scan(&mut self, no: HostNo, dev: DevAddr) -> Result<(), NoMemory>
-        ensures { OnOk result (seen self.new ≡ record (seen self.old) { scans = (seen self.old).scans ++ (no, dev) ∷ [] }) }
+    // Notes a device that is found by scanning, if it is.
+    fn note_scan(&mut self, no: HostNo, dev: DevAddr, scan: bool) -> Result<(), NoMemory>
+        ensures { OnOk result (seen self.new ≡ record (seen self.old) { scans = with_scan scan (no, dev) (seen self.old).scans }) }
     {
+        if !scan {
+            return Ok(());
+        }
         match self.scans.push((no, dev)) {
             Ok(()) => Ok(()),
             Err(_) => Err(NoMemory),

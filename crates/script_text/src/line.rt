@@ -95,11 +95,7 @@ fn lun_line(draft: &mut Draft, rest: Words) -> Result<(), LineFault>
         stopped: flags.stopped,
         start: start_state(flags.scan),
     };
-    draft.add_unit(no, unit).map_err(memory)?;
-    if flags.scan {
-        return draft.add_scan(no, dev).map_err(memory);
-    }
-    Ok(())
+    draft.add_unit(no, unit, flags.scan).map_err(memory)
 }
 
 /// Where a device starts; one that is found by scanning has to be looked for first.
