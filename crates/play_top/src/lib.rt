@@ -11,6 +11,8 @@ mod reading;
 mod recovery_rows;
 #[cfg(test)]
 mod rows;
+#[cfg(test)]
+mod scan_rows;
 mod status;
 #[cfg(test)]
 mod tests;

@@ -2,6 +2,7 @@ use crate::barred_rows::BARRED;
 use crate::drain_rows::{DRAINED, SHORT};
 use crate::recovery_rows::RECOVERIES;
 use crate::rows::{ENDS, FIRST, PLAYED};
+use crate::scan_rows::SCANNED;
 use crate::timeout_rows::TIMEOUTS;
 use crate::{Status, play};
 use mid_io::{MemSink, MemSource};
@@ -63,6 +64,16 @@ fn scripts_with_recovery_are_played(rt: HostRuntime) -> Result<(), Fail> {
 #[test]
 fn scripts_are_drained(rt: HostRuntime) -> Result<(), Fail> {
     for (script, text) in DRAINED {
+        let (status, written) = ends(rt.alloc(), script, 0, 0)?;
+        assert_eq!(rt; status, Status(0), "the status of {script}");
+        assert_eq!(rt; written.as_slice(), text.as_bytes(), "the text of {script}");
+    }
+    Ok(())
+}
+
+#[test]
+fn scripts_with_scans_are_played(rt: HostRuntime) -> Result<(), Fail> {
+    for (script, text) in SCANNED {
         let (status, written) = ends(rt.alloc(), script, 0, 0)?;
         assert_eq!(rt; status, Status(0), "the status of {script}");
         assert_eq!(rt; written.as_slice(), text.as_bytes(), "the text of {script}");
