@@ -125,9 +125,9 @@ fn devices_on(alloc: Global, number: u8, scans: &[ScanLine]) -> Result<Vec<DevAd
     ensures { IfOk result (λ devices. devices.items ≡ devices_on number scans.now) }
 {
     let mut devices = Vec::new(alloc);
-    for (no, dev) in scans {
-        if no.0 == number {
-            devices.push(*dev).map_err(|_| NoMemory)?;
+    for scan in scans {
+        if scan.0.0 == number {
+            devices.push(scan.1).map_err(|_| NoMemory)?;
         }
     }
     Ok(devices)
