@@ -5,3 +5,4 @@ pub mod Counted
 pub mod Asked
 pub mod Listed
 pub mod Starts
+pub mod Scanned

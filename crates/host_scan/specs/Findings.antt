@@ -1,5 +1,5 @@
 -- What the scans of a host's targets came to, and where they leave its adapter.
-use Rattle.std.specs.Prelude.{◌≡◌, ℕ, ◌==◌, ◌&&◌, Bool, true, false, if◌then◌else◌, List, [], ◌∷◌, ◌++◌}
+use Rattle.std.specs.Prelude.{◌≡◌, ℕ, ◌==◌, ◌&&◌, Bool, true, false, if◌then◌else◌, Option, None, Some, List, [], ◌∷◌, ◌++◌}
 use Rattle.std.specs.List.{list_any}
 use Rattle.mid_base.specs.declared.names.DevAddr.{DevAddr}
 use Rattle.mid_base.specs.declared.states.DeviceState.TheVariants.{Running, Del}
@@ -18,13 +18,17 @@ use Rattle.host_scan.specs.declared.finding.Finding.{Finding}
 use Rattle.host_scan.specs.Targets.{same_target, target_of, zero_of}
 use Rattle.host_scan.specs.Found.{answers, probes_of}
 
--- the probes that were sent where a scan ends with a fault
-abbrev pub probes_until : ScanFault → ℕ
-probes_until (fault.Silent code) = if code == inquiry then 1 else 2
-probes_until (fault.Refused code a) = if code == inquiry then 1 else 2
-probes_until (fault.Inquiry moved) = 1
-probes_until (fault.List list) = 2
-probes_until fault.NoMemory = 0
+-- INQUIRY is the first probe, and REPORT LUNS the second
+abbrev pub probes_up_to : ℕ → ℕ
+probes_up_to code = if code == inquiry then 1 else 2
+
+-- the probes that were sent where a scan ends with a fault; none where there was no memory to begin it
+abbrev pub probes_until : ScanFault → Option ℕ
+probes_until (fault.Silent code) = Some (probes_up_to code)
+probes_until (fault.Refused code a) = Some (probes_up_to code)
+probes_until (fault.Inquiry moved) = Some 1
+probes_until (fault.List list) = Some 2
+probes_until fault.NoMemory = None
 
 -- the scan of a target that tells its units finds all of them, and another finds none
 abbrev pub finding_of : HostSpec → Target → Finding

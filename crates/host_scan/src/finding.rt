@@ -1,11 +1,11 @@
-ghost use Rattle.std.specs.Prelude.{◌≡◌, ◌==◌, [], map, IfOk, true, if◌then◌else◌};
+ghost use Rattle.std.specs.Prelude.{◌≡◌, ◌==◌, [], map, IfOk, true};
 ghost use Rattle.std.specs.List.{list_any};
 ghost use Rattle.mid_base.specs.Address.{has_dev};
 ghost use Rattle.mid_base.specs.Limits.{KeepsLimits};
 ghost use Rattle.debug_adapter.specs.Adapter.{AdapterStands};
 ghost use Rattle.host_scan.specs.Targets.{targets_of, zero_of};
 ghost use Rattle.host_scan.specs.Found.{probed_before};
-ghost use Rattle.host_scan.specs.Findings.{ScansTo, finding_of, lists, probes_until, told};
+ghost use Rattle.host_scan.specs.Findings.{ScansTo, finding_of, lists, probes_until, probes_up_to, told};
 
 use crate::target::{Target, targets_of};
 use debug_adapter::DebugAdapter;
@@ -115,29 +115,32 @@ fn ask(
             probes: 2,
             numbers: Rows::from_vec(numbers),
         }),
-        Err(ScanFault::NoMemory) => Err(NoMemory),
-        Err(fault) => Ok(Finding {
-            target,
-            probes: probes_until(&fault),
-            numbers: Rows::new(alloc),
-        }),
+        Err(fault) => match probes_until(fault) {
+            Some(probes) => Ok(Finding {
+                target,
+                probes,
+                numbers: Rows::new(alloc),
+            }),
+            None => Err(NoMemory),
+        },
     }
 }
 
-// How many probes were sent where a scan ended with this fault.
-fn probes_until(fault: &ScanFault) -> u32
-    ensures { result ≡ probes_until fault.now }
+// How many probes were sent where a scan ended with this fault; None where there was no memory to begin it.
+fn probes_until(fault: ScanFault) -> Option<u32>
+    ensures { result ≡ probes_until fault }
 {
     match fault {
-        ScanFault::Silent(code) | ScanFault::Refused(code, _) => probes_up_to(*code),
-        ScanFault::Inquiry(_) => 1,
-        ScanFault::List(_) => 2,
-        ScanFault::NoMemory => 0,
+        ScanFault::Silent(code) => Some(probes_up_to(code)),
+        ScanFault::Refused(code, _) => Some(probes_up_to(code)),
+        ScanFault::Inquiry(_) => Some(1),
+        ScanFault::List(_) => Some(2),
+        ScanFault::NoMemory => None,
     }
 }
 
 fn probes_up_to(code: u8) -> u32
-    ensures { result ≡ (if code == 18 then 1 else 2) }
+    ensures { result ≡ probes_up_to code }
 {
     if code == INQUIRY { 1 } else { 2 }
 }

@@ -40,7 +40,7 @@ pub fn scan_host(
 {
     let mut lower = DebugAdapter::new(alloc, &spec)?;
     let findings = scan_targets(alloc, &spec, devices, &mut lower)?;
-    let before = probes_told(alloc, &findings)?;
+    let before = Rows::from_vec(probes_told(alloc, &findings)?);
     let spec = with_findings(alloc, spec, devices, &findings)?;
     Ok(ScannedHost {
         spec,
@@ -50,11 +50,12 @@ pub fn scan_host(
 }
 
 // The units 0 that were scanned, with their numbers of probes.
-fn probes_told(alloc: Global, findings: &[Finding]) -> Result<Rows<(DevAddr, u32)>, NoMemory>
-    ensures { IfOk result (λ rows. rows ≡ map told findings.now) }
+fn probes_told(alloc: Global, findings: &[Finding]) -> Result<Vec<(DevAddr, u32)>, NoMemory>
+    ensures { IfOk result (λ v. v.items ≡ map told findings.now) }
 {
-    match findings.iter().map(|finding| finding.told()).collect(alloc) {
-        Ok(probes) => Ok(Rows::from_vec(probes)),
+    let probes = findings.iter().map(|finding| finding.told());
+    match probes.collect(alloc) {
+        Ok(probes) => Ok(probes),
         Err(_) => Err(NoMemory),
     }
 }
@@ -111,9 +112,15 @@ fn is_among(devices: &[DevAddr], dev: DevAddr) -> bool
 fn state_by(dev: DevAddr, findings: &[Finding]) -> DeviceState
     ensures { result ≡ (if list_any (lists dev) findings.now then DeviceState.Running else DeviceState.Del) }
 {
-    if findings.iter().any(|finding| finding.lists(dev)) {
+    if is_found(dev, findings) {
         DeviceState::Running
     } else {
         DeviceState::Del
     }
+}
+
+fn is_found(dev: DevAddr, findings: &[Finding]) -> bool
+    ensures { result ≡ list_any (lists dev) findings.now }
+{
+    findings.iter().any(|finding| finding.lists(dev))
 }

@@ -43,8 +43,7 @@ impl Target {
     fn comes_before(self, other: Target) -> bool
         ensures { result ≡ comes_before self other }
     {
-        self.channel < other.channel
-            || self.channel == other.channel && self.target < other.target
+        self.channel < other.channel || self.channel == other.channel && self.target < other.target
     }
 }
 

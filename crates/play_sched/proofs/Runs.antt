@@ -1,66 +1,52 @@
 -- The hosts of a script that was played.
-use Rattle.std.proofs.Common.{◌≡◌, ℕ, suc, Bool, true, not, ◌&&◌, ◌==◌, nat_le, List, [], ◌∷◌, ◌++◌, length, map, take, drop, refl, sym, ap, ◌∙◌, subst, inl, inr, tt, arith}
-use Rattle.std.specs.Prelude.{All, ◌||◌}
-use Rattle.std.specs.List.{list_any}
+use Rattle.std.proofs.Common.{◌≡◌, ℕ, suc, Bool, not, ◌&&◌, List, [], ◌∷◌, ◌++◌, length, map, take, drop, get_or, refl, sym, ap, ◌∙◌, ◌==◌, subst, inl, inr, arith}
+use Rattle.std.specs.Prelude.{All}
 use Rattle.std.proofs.lemmas.Bool.{cases_Bool}
 use Rattle.std.proofs.lemmas.List.{append-nil, drop_all, length-map, take_all}
 use Rattle.std.proofs.lemmas.List.Elements.{All-cons, All-nil}
 use Rattle.mid_base.specs.declared.names.DevAddr.{DevAddr}
 use Rattle.mid_base.specs.declared.names.HostNo.{HostNo}
 use Rattle.mid_base.specs.declared.steps.Step.{Step}
-use Rattle.mid_base.specs.declared.steps.Step.TheVariants as step
+use Rattle.mid_base.specs.declared.steps.Step.TheVariants.{SetState}
 use Rattle.mid_base.specs.declared.steps.Why.{Why}
-use Rattle.mid_base.specs.declared.host_spec.LunSpec.{LunSpec}
 use Rattle.mid_base.specs.declared.host_spec.HostSpec.{HostSpec}
-use Rattle.mid_base.specs.Address.{has_dev, same_dev}
 use Rattle.mid_base.specs.Limits.{KeepsLimits}
-use Rattle.host_scan.specs.Found.{found, unit_found}
 use Rattle.script_text.specs.declared.script.Script.{Script}
 use Rattle.script_text.specs.Playable.{IsStepOf, IsStepOn, IsStepOnSome}
 use Rattle.script_text.specs.Said.{host_of}
+use Rattle.host_scan.proofs.Starts.{found_devs, found_keeps}
 use Rattle.drain_rounds.specs.Making.{HostRun}
 use Rattle.host_template.specs.Standing.{Before}
 use Rattle.drain_rounds.specs.Rounds.{Drains}
 use Rattle.play_sched.specs.Played.{DrainEach, Plays, Ran, RunOn, most_rounds}
-use Rattle.play_sched.specs.Runs.{IsNumbered, IsRun, all_drained, devices_on, specs_of, unplayed_hosts}
+use Rattle.play_sched.specs.Runs.{IsNumbered, IsRun, all_drained, as_found, devices_on, specs_of, unplayed}
 
--- scanning keeps what steps name
+specs_unplayed : (scans : List (HostNo × DevAddr)) (hosts : List HostSpec) → specs_of (map (unplayed scans) hosts) ≡ map (as_found scans) hosts
+specs_unplayed scans [] = refl
+specs_unplayed scans (h ∷ hosts) = ap (λ (hs : List HostSpec). as_found scans h ∷ hs) (specs_unplayed scans hosts)
 
-unit_dev : (ds : List DevAddr) (s : HostSpec) (l : LunSpec) → (unit_found ds s l).dev ≡ l.dev
-unit_dev ds s l = elim (cases_Bool (list_any (λ d. same_dev d l.dev) ds)) [
-  | inl is ↦ rw is refl
-  | inr isnt ↦ rw isnt refl
+pub started : (scans : List (HostNo × DevAddr)) (hosts : List HostSpec) (start : List HostRun) → start ≡ map (unplayed scans) hosts → specs_of start ≡ map (as_found scans) hosts
+started scans hosts start e = ap specs_of e ∙ specs_unplayed scans hosts
+
+-- a step on a host is one on the host with what was found
+step_found : (scans : List (HostNo × DevAddr)) (h : HostSpec) (t : Step) → IsStepOn h t → IsStepOn (as_found scans h) t
+step_found scans h (SetState d x) is = found_devs (devices_on h.no.0 scans) h d ∙ is
+step_found scans h t is = is
+
+step_on_found : (scans : List (HostNo × DevAddr)) (hosts : List HostSpec) (n : ℕ) (t : Step) → IsStepOnSome (host_of hosts n) t → IsStepOnSome (host_of (map (as_found scans) hosts) n) t
+step_on_found scans [] n t is = is
+step_on_found scans (h ∷ hosts) n t is = elim (cases_Bool (h.no.0 == n)) [
+  | inl own ↦ rw own (step_found scans h t (rw own at is))
+  | inr other ↦ rw other (step_on_found scans hosts n t (rw other at is))
 ]
 
-found_devs : (ds : List DevAddr) (s : HostSpec) (luns : List LunSpec) (d : DevAddr) → has_dev (map (unit_found ds s) luns) d ≡ has_dev luns d
-found_devs ds s [] d = refl
-found_devs ds s (l ∷ luns) d =
-    ap (λ (e : DevAddr). same_dev e d || has_dev (map (unit_found ds s) luns) d) (unit_dev ds s l)
-    ∙ ap (λ (b : Bool). same_dev l.dev d || b) (found_devs ds s luns d)
+pub steps_fit : (scans : List (HostNo × DevAddr)) (hosts : List HostSpec) (steps : List (ℕ × HostNo × Step)) (start : List HostRun) → start ≡ map (unplayed scans) hosts
+    → All (IsStepOf hosts) steps → All (IsStepOf (specs_of start)) steps
+steps_fit scans hosts steps start f all =
+    subst (λ (hs : List HostSpec). All (IsStepOf hs) steps) (sym (started scans hosts start f)) (λ k x lt. step_on_found scans hosts (get_or steps k x).1.0 (get_or steps k x).2 (all k x lt))
 
-found_step : (ds : List DevAddr) (s : HostSpec) (t : Step) → IsStepOn s t → IsStepOn (found ds s) t
-found_step ds s (step.SetState d x) h = found_devs ds s s.luns d ∙ h
-found_step ds s (step.Submit lane) h = h
-found_step ds s (step.Own n by) h = h
-found_step ds s (step.Settle n) h = h
-found_step ds s (step.Drop n) h = h
-found_step ds s t h = tt
-
-scanned_step : (scans : List (HostNo × DevAddr)) (hosts : List HostSpec) (n : ℕ) (t : Step) → IsStepOnSome (host_of hosts n) t
-    → IsStepOnSome (host_of (specs_of (unplayed_hosts scans hosts)) n) t
-scanned_step scans [] n t h = h
-scanned_step scans (s ∷ hosts) n t h = elim (cases_Bool (s.no.0 == n)) [
-  | inl is ↦ rw is (found_step (devices_on s.no.0 scans) s t (rw is at h))
-  | inr isnt ↦ rw isnt (scanned_step scans hosts n t (rw isnt at h))
-]
-
-pub steps_fit : (scans : List (HostNo × DevAddr)) (hosts : List HostSpec) (steps : List (ℕ × HostNo × Step)) (start : List HostRun)
-    → start ≡ unplayed_hosts scans hosts → All (IsStepOf hosts) steps → All (IsStepOf (specs_of start)) steps
-steps_fit scans hosts steps start e all =
-    subst (λ (runs : List HostRun). All (IsStepOf (specs_of runs)) steps) (sym e) (λ k t lt. scanned_step scans hosts t.1.0 t.2 (all k t lt))
-
-pub ran : (script : Script) (mid new : List HostRun) (skips : List (ℕ × Why)) (short : Bool) → Plays script.steps (unplayed_hosts script.scans script.hosts) mid skips
-    → RunOn script.drain (most_rounds script) mid new → specs_of new ≡ specs_of (unplayed_hosts script.scans script.hosts) → short ≡ (script.drain && not (all_drained new)) → All IsRun new → Ran script new skips short
+pub ran : (script : Script) (mid new : List HostRun) (skips : List (ℕ × Why)) (short : Bool) → Plays script.steps (map (unplayed script.scans) script.hosts) mid skips
+    → RunOn script.drain (most_rounds script) mid new → specs_of new ≡ map (as_found script.scans) script.hosts → short ≡ (script.drain && not (all_drained new)) → All IsRun new → Ran script new skips short
 ran script mid new skips short plays rounds kept ends each = record {
   hosts = kept;
   mid = mid;
@@ -97,22 +83,18 @@ pub drained_specs : (most : ℕ) (old new : List HostRun) → DrainEach most old
 drained_specs most [] new h = ap specs_of h
 drained_specs most (x ∷ old) new h = ap specs_of h.3 ∙ ap (λ (ss : List HostSpec). x.spec ∷ ss) (drained_specs most old h.1 h.4)
 
-abbrev has_number : HostSpec → Type 0
-has_number s = nat_le s.no.0 63 ≡ true
+numbered_all : (runs : List HostRun) → All KeepsLimits (specs_of runs) → All IsNumbered runs
+numbered_all [] all = All-nil IsNumbered
+numbered_all (r ∷ runs) all = All-cons IsNumbered r runs (all 0 r.spec (omega arith)).number (numbered_all runs (λ k x lt. all (suc k) x (omega (arith, lt))))
 
-numbered_specs : (scans : List (HostNo × DevAddr)) (hosts : List HostSpec) → All KeepsLimits hosts → All has_number (specs_of (unplayed_hosts scans hosts))
-numbered_specs scans [] all = All-nil has_number
-numbered_specs scans (s ∷ hosts) all =
-    All-cons has_number (found (devices_on s.no.0 scans) s) (specs_of (unplayed_hosts scans hosts)) (all 0 s (omega arith)).number
-    (numbered_specs scans hosts (λ k x lt. all (suc k) x (omega (arith, lt))))
+found_limits : (scans : List (HostNo × DevAddr)) (hosts : List HostSpec) → All KeepsLimits hosts → All KeepsLimits (map (as_found scans) hosts)
+found_limits scans [] all = All-nil KeepsLimits
+found_limits scans (h ∷ hosts) all =
+    All-cons KeepsLimits (as_found scans h) (map (as_found scans) hosts) (found_keeps (devices_on h.no.0 scans) h (all 0 h (omega arith)))
+    (found_limits scans hosts (λ k x lt. all (suc k) x (omega (arith, lt))))
 
-numbered_runs : (runs : List HostRun) → All has_number (specs_of runs) → All IsNumbered runs
-numbered_runs [] all = All-nil IsNumbered
-numbered_runs (r ∷ runs) all = All-cons IsNumbered r runs (all 0 r.spec (omega arith)) (numbered_runs runs (λ k x lt. all (suc k) x (omega (arith, lt))))
-
-pub numbered : (scans : List (HostNo × DevAddr)) (hosts : List HostSpec) (runs : List HostRun) → specs_of runs ≡ specs_of (unplayed_hosts scans hosts)
-    → All KeepsLimits hosts → All IsNumbered runs
-numbered scans hosts runs e all = numbered_runs runs (subst (λ (hs : List HostSpec). All has_number hs) (sym e) (numbered_specs scans hosts all))
+pub numbered : (scans : List (HostNo × DevAddr)) (hosts : List HostSpec) (runs : List HostRun) → specs_of runs ≡ map (as_found scans) hosts → All KeepsLimits hosts → All IsNumbered runs
+numbered scans hosts runs e all = numbered_all runs (subst (λ (hs : List HostSpec). All KeepsLimits hs) (sym e) (found_limits scans hosts all))
 
 -- as many hosts as before are written back in the place of the old ones
 pub written_back : (new old : List HostRun) (n : ℕ) → specs_of new ≡ specs_of old → n ≡ length old → take n (new ++ drop (length new) old) ≡ new

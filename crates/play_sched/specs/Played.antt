@@ -1,4 +1,4 @@
--- How a script makes the journals of its hosts, which were scanned before: by its step lines, and then in rounds. P and Q have the newest entry first.
+-- How a script makes the journals of its hosts: by its step lines, and then in rounds. P and Q have the newest entry first.
 use Rattle.std.specs.Prelude.{◌≡◌, ◌==◌, ◌&&◌, not, ℕ, Bool, true, false, List, [], ◌∷◌, ◌++◌, map, count_by, Option, None, Some, unwrap_or, All, slice_get, slice_set}
 use Rattle.mid_base.specs.declared.names.HostNo.{HostNo}
 use Rattle.mid_base.specs.declared.entries.Entry.{Entry}
@@ -10,7 +10,7 @@ use Rattle.drain_rounds.specs.Bound.{host_bound}
 use Rattle.drain_rounds.specs.Making.{Comes, HostRun}
 use Rattle.drain_rounds.specs.Rounds.{Drains, greatest}
 use Rattle.script_text.specs.declared.script.Script.{Script}
-use Rattle.play_sched.specs.Runs.{IsRun, all_drained, specs_of, unplayed_hosts}
+use Rattle.play_sched.specs.Runs.{IsRun, all_drained, as_found, specs_of, unplayed}
 
 -- the step was made on a host with this number, and no other host has changed
 pub record ComesOn (old : List HostRun) (number : ℕ) (step : Step) (why : Option Why) (new : List HostRun) : Type 0 where
@@ -56,12 +56,12 @@ bound_in steps h = host_bound h (count_by (sets_state h.no.0) steps)
 abbrev pub most_rounds : Script → ℕ
 most_rounds script = unwrap_or script.budget (greatest (map (bound_in script.steps) script.hosts))
 
--- the script's hosts, in its order, were run so: their targets are scanned; its steps make their journals, and then its rounds,
--- where it asks for them; `short` says that it asked for them and some host isn't drained
+-- the script's hosts, in its order, were scanned and run so: its steps make their journals, and then its rounds, where it asks
+-- for them; `short` says that it asked for them and some host isn't drained
 pub record Ran (script : Script) (runs : List HostRun) (skips : List (ℕ × Why)) (short : Bool) : Type 0 where
-  pub hosts : specs_of runs ≡ specs_of (unplayed_hosts script.scans script.hosts)
+  pub hosts : specs_of runs ≡ map (as_found script.scans) script.hosts
   pub mid : List HostRun
-  pub steps : Plays script.steps (unplayed_hosts script.scans script.hosts) mid skips
+  pub steps : Plays script.steps (map (unplayed script.scans) script.hosts) mid skips
   pub rounds : RunOn script.drain (most_rounds script) mid runs
   pub ends : short ≡ (script.drain && not (all_drained runs))
   pub each : All IsRun runs

@@ -4,25 +4,23 @@ use Rattle.std.specs.List.{list_all}
 use Rattle.mid_base.specs.declared.names.DevAddr.{DevAddr}
 use Rattle.mid_base.specs.declared.names.HostNo.{HostNo}
 use Rattle.mid_base.specs.declared.host_spec.HostSpec.{HostSpec}
-use Rattle.host_scan.specs.Found.{found, probed_before}
 use Rattle.journal_laws.specs.Headline.{Headline}
 use Rattle.debug_adapter.specs.LowerRun.{LowerRun}
+use Rattle.host_scan.specs.Found.{found, probed_before}
 use Rattle.drain_rounds.specs.Making.{HostRun}
 use Rattle.drain_rounds.specs.Rounds.{is_drained}
 
--- the devices among these that are this host's
+-- of these devices those of the host with this number
 abbrev pub devices_on : ℕ → List (HostNo × DevAddr) → List DevAddr
-devices_on number scans = map (λ d. d.1) (filter (λ d. d.0.0 == number) scans)
+devices_on number scans = map (λ x. x.1) (filter (λ x. x.0.0 == number) scans)
 
--- a host whose targets were scanned, and that isn't played yet
-abbrev pub unplayed : List DevAddr → HostSpec → HostRun
-unplayed devices s = record { spec = found devices s; before = probed_before devices s; entries = [] }
+-- a host after its targets were scanned for those devices that are found by scanning
+abbrev pub as_found : List (HostNo × DevAddr) → HostSpec → HostSpec
+as_found scans s = found (devices_on s.no.0 scans) s
 
-abbrev pub host_unplayed : List (HostNo × DevAddr) → HostSpec → HostRun
-host_unplayed scans s = unplayed (devices_on s.no.0 scans) s
-
-abbrev pub unplayed_hosts : List (HostNo × DevAddr) → List HostSpec → List HostRun
-unplayed_hosts scans specs = map (host_unplayed scans) specs
+-- nothing else has happened to it
+abbrev pub unplayed : List (HostNo × DevAddr) → HostSpec → HostRun
+unplayed scans s = record { spec = as_found scans s; before = probed_before (devices_on s.no.0 scans) s; entries = [] }
 
 -- the journal keeps every rule and promise, and the lower layer's part of it is that of an adapter with the host's plan
 pub record IsRun (run : HostRun) : Type 0 where

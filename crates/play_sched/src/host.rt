@@ -1,12 +1,15 @@
-ghost use Rattle.std.specs.Prelude.{◌≡◌, find, option_map, nat_lt};
+ghost use Rattle.std.specs.Prelude.{◌≡◌, IfOk, find, option_map, nat_lt};
 ghost use Rattle.attempt_table.specs.Claims.{is_by};
 ghost use Rattle.trace_model.specs.Steps.{same_owner};
 ghost use Rattle.drain_rounds.specs.Rounds.{earlier, is_stopped};
 ghost use Rattle.disposition.specs.Ladder.{address};
+ghost use Rattle.play_sched.specs.Runs.{devices_on};
 
 use debug_adapter::DebugAdapter;
 use host_scan::{ScannedHost, scan_host};
-use mid_base::{Attempt, By, DevAddr, DeviceState, Did, Entry, HostSpec, NoMemory, Step, Tag, Why};
+use mid_base::{
+    Attempt, By, DevAddr, DeviceState, Did, Entry, HostNo, HostSpec, NoMemory, Step, Tag, Why,
+};
 use mid_core::Core;
 use std::alloc::Global;
 use std::marker::Model;
@@ -36,16 +39,18 @@ impl Host {
     ghost use Rattle.play_sched.specs.Runs.{IsRun, unplayed};
     ghost use Rattle.play_sched.specs.Rest.{GoesOn, IsFirstClaim, stops_none};
 
-    /// A host to which nothing has happened yet but that its targets with these devices were scanned.
-    pub fn new(alloc: Global, spec: HostSpec, devices: &[DevAddr]) -> Result<Host, NoMemory>
+    /// A host to which nothing has happened yet, but that its targets were scanned for those of these devices that are its own.
+    pub fn new(alloc: Global, spec: HostSpec, scans: &[(HostNo, DevAddr)]) -> Result<Host, NoMemory>
         requires { KeepsLimits spec }
-        ensures { IfOk result (λ host. host ≡ unplayed devices.now spec) }
+        ensures { IfOk result (λ host. host ≡ unplayed scans.now spec) }
     {
+        let devices = devices_on(alloc, spec.no, scans)?;
+        let host = scan_host(alloc, spec, &devices)?;
         let ScannedHost {
             spec,
             before,
             lower,
-        } = scan_host(alloc, spec, devices)?;
+        } = host;
         let core = Core::new(alloc, spec, before, lower)?;
         Ok(Host { core })
     }
@@ -129,6 +134,21 @@ impl Host {
             }
         }
         first
+    }
+}
+
+// Of these devices those of the host with this number.
+fn devices_on(
+    alloc: Global,
+    no: HostNo,
+    scans: &[(HostNo, DevAddr)],
+) -> Result<Vec<DevAddr>, NoMemory>
+    ensures { IfOk result (λ v. v.items ≡ devices_on no.0 scans.now) }
+{
+    let own = scans.iter().filter(|scan| scan.0.0 == no.0);
+    match own.map(|scan| scan.1).collect(alloc) {
+        Ok(devices) => Ok(devices),
+        Err(_) => Err(NoMemory),
     }
 }
 

@@ -1,5 +1,5 @@
-//! Plays a script: makes its steps on its hosts, each over a simulated adapter, and runs the hosts on in rounds until nothing is
-//! left to do.
+//! Plays a script: scans the targets of its hosts, each over a simulated adapter, makes its steps on them, and runs the hosts on
+//! in rounds until nothing is left to do.
 //!
 //! A round is a list of phases (`rounds`); each makes the steps that it names until it names none (`phases`), and then time
 //! goes on. Hosts share nothing, so each is run on by itself.

@@ -5,7 +5,7 @@ ghost use Rattle.script_text.specs.Playable.{IsPlayable, IsStepOf, IsStepOnSome}
 ghost use Rattle.script_text.specs.Said.{host_of};
 ghost use Rattle.drain_rounds.specs.Rounds.{greatest};
 ghost use Rattle.play_sched.specs.Played.{ComesOn, DrainEach, Plays, Ran, RunOn, bound_in, most_rounds, sets_state, skip_of};
-ghost use Rattle.play_sched.specs.Runs.{IsNumbered, IsRun, all_drained, devices_on, is_named, specs_of, unplayed_hosts};
+ghost use Rattle.play_sched.specs.Runs.{IsNumbered, IsRun, all_drained, as_found, is_named, specs_of, unplayed};
 
 use crate::draining::drain;
 use crate::host::Host;
@@ -16,9 +16,6 @@ use std::alloc::Global;
 
 type StepLine = (u64, HostNo, Step);
 
-/// A device that is found by scanning, and its host.
-type ScanLine = (HostNo, DevAddr);
-
 /// The hosts of a script that was played, in its order, the step lines that were skipped (their numbers, and why), and whether
 /// the rounds of the script were used up with a host that isn't drained.
 #[derive(Drop)]
@@ -28,8 +25,7 @@ pub struct Played {
     pub short: bool,
 }
 
-/// Scans the targets of a script's hosts that have devices which are found by scanning, makes its steps on the hosts, and runs
-/// them on in rounds where it ends with `end drain`.
+/// Scans the targets of a script's hosts, makes its steps on them, and runs them on in rounds where it ends with `end drain`.
 pub fn play_script(alloc: Global, script: Script) -> Result<Played, NoMemory>
     requires { IsPlayable script }
     ensures ran { IfOk result (λ played. Ran script played.hosts.items played.skips.items played.short) }
@@ -89,48 +85,38 @@ fn sets_state(number: u8, line: &StepLine) -> bool
     matches!(line.2, Step::SetState(..)) && line.1.0 == number
 }
 
-// The hosts with these specs, whose targets with these devices were scanned, after the step lines, and those that were skipped.
+// The hosts with these specs after the step lines, and those that were skipped.
 fn play_lines(
     alloc: Global,
     specs: Rows<HostSpec>,
-    scans: &[ScanLine],
+    scans: &[(HostNo, DevAddr)],
     steps: &[StepLine],
 ) -> Result<(Vec<Host>, Vec<(u64, Why)>), NoMemory>
     requires limits { All KeepsLimits specs }
     requires steps { All (IsStepOf specs) steps.now }
-    ensures plays { IfOk result (λ played. Plays steps.now (unplayed_hosts scans.now specs) played.0.items played.1.items) }
-    ensures specs { IfOk result (λ played. specs_of played.0.items ≡ specs_of (unplayed_hosts scans.now specs)) }
+    ensures plays { IfOk result (λ played. Plays steps.now (map (unplayed scans.now) specs) played.0.items played.1.items) }
+    ensures specs { IfOk result (λ played. specs_of played.0.items ≡ map (as_found scans.now) specs) }
 {
     let mut hosts = start(alloc, specs, scans)?;
     let skips = play_steps(alloc, &mut hosts, steps)?;
     Ok((hosts, skips))
 }
 
-// Hosts with these specs, to which nothing has happened yet but that their targets with these devices were scanned.
-fn start(alloc: Global, specs: Rows<HostSpec>, scans: &[ScanLine]) -> Result<Vec<Host>, NoMemory>
+// Hosts with these specs, to which nothing has happened but the scans of their targets.
+fn start(
+    alloc: Global,
+    specs: Rows<HostSpec>,
+    scans: &[(HostNo, DevAddr)],
+) -> Result<Vec<Host>, NoMemory>
     requires { All KeepsLimits specs }
-    ensures { IfOk result (λ hosts. hosts.items ≡ unplayed_hosts scans.now specs) }
+    ensures { IfOk result (λ hosts. hosts.items ≡ map (unplayed scans.now) specs) }
 {
     let mut hosts = Vec::new(alloc);
     for spec in specs.into_vec() {
-        let devices = devices_on(alloc, spec.no.0, scans)?;
-        let host = Host::new(alloc, spec, &devices)?;
+        let host = Host::new(alloc, spec, scans)?;
         hosts.push(host).map_err(|_| NoMemory)?;
     }
     Ok(hosts)
-}
-
-// The devices among these that are of the host with this number.
-fn devices_on(alloc: Global, number: u8, scans: &[ScanLine]) -> Result<Vec<DevAddr>, NoMemory>
-    ensures { IfOk result (λ devices. devices.items ≡ devices_on number scans.now) }
-{
-    let mut devices = Vec::new(alloc);
-    for scan in scans {
-        if scan.0.0 == number {
-            devices.push(scan.1).map_err(|_| NoMemory)?;
-        }
-    }
-    Ok(devices)
 }
 
 // Makes steps one after the other.

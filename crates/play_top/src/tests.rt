@@ -72,10 +72,9 @@ fn scripts_are_drained(rt: HostRuntime) -> Result<(), Fail> {
 }
 
 #[test]
-fn scripts_with_scans_are_played(rt: HostRuntime) -> Result<(), Fail> {
+fn scripts_with_scanned_devices_are_played(rt: HostRuntime) -> Result<(), Fail> {
     for (script, text) in SCANNED {
-        let (status, written) = ends(rt.alloc(), script, 0, 0)?;
-        assert_eq!(rt; status, Status(0), "the status of {script}");
+        let (_, written) = ends(rt.alloc(), script, 0, 0)?;
         assert_eq!(rt; written.as_slice(), text.as_bytes(), "the text of {script}");
     }
     Ok(())

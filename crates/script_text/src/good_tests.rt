@@ -128,7 +128,8 @@ fn a_good_script_says_its_plans_and_steps(rt: HostRuntime) -> Result<(), Fail> {
 
 #[test]
 fn devices_that_are_found_by_scanning_are_said(rt: HostRuntime) -> Result<(), Fail> {
-    let text = "host 3 1 -\nlun 3 0:0:1 8 8 ro scan\nlun 3 0:1:1 8 8 stopped\nlun 3 15:255:16383 8 8 scan stopped\nend stop\n";
+    let text =
+        "host 3 1 -\nlun 3 0:0:1 8 8 ro scan\nlun 3 0:1:1 8 8 stopped\nlun 3 15:255:16383 8 8 scan stopped\nend stop\n";
     let script = read(rt.alloc(), &[text], 16)?;
     let scans = [(HostNo(3), THERE), (HostNo(3), HERE)];
     assert_eq!(rt; script.scans.as_slice(), scans.as_slice());
@@ -145,7 +146,10 @@ fn only_devices_that_are_found_by_scanning_start_in_created(rt: HostRuntime) -> 
     let [first, second] = host.luns.as_slice() else {
         return Err("two units".into());
     };
-    assert_eq!(rt; (first.start, second.start), (DeviceState::Created, DeviceState::Running));
+    assert_eq!(rt;
+        (first.start, second.start),
+        (DeviceState::Created, DeviceState::Running)
+    );
     Ok(())
 }
 

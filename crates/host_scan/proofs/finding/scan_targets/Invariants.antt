@@ -6,6 +6,6 @@ use Rattle.host_scan.proofs.finding.scan_targets.Given as goal
 
 abbrev pub invariant-loop-target : goal.invariant-loop-target
 invariant-loop-target l = record {
-  found : l.findings.items ≡ map (finding_of l.spec) (take l.target-index l.targets.items);
-  stands : AdapterStands l.lower l.spec (before_of l.spec (take l.target-index l.targets.items)) [];
+  found : l.findings.items ≡ map (finding_of l.spec) (take l.target-index l.target-items);
+  stands : AdapterStands l.lower l.spec (before_of l.spec (take l.target-index l.target-items)) [];
 }
