@@ -1,5 +1,5 @@
-//! Plays a script: reads it, makes its steps on its hosts, each over a simulated adapter, and writes their journals with the
-//! results.
+//! Plays a script: reads it, scans the targets of its hosts, each over a simulated adapter, makes its steps on them, and writes
+//! their journals with the results.
 #![tactic(auto)]
 
 #[cfg(test)]

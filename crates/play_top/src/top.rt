@@ -24,9 +24,10 @@ use std::alloc::Global;
 /// `words` are those of the command line without the program's name, as `play_words::listed` knows them: none for the script, or
 /// `--make N` or `--make=N` for N commands, 1 to 20,000, each with or without a last word `--`.
 ///
-/// A script is played by its step lines, in their order, each on the host that it names; each host's lower layer is a
-/// simulated adapter with the planned faults of that host. A script that ends with `end drain` is then run on in rounds, until
-/// each host is drained or the rounds that it may take are made. What is written is, for each host in ascending numbers, a line
+/// Each host's lower layer is a simulated adapter with the planned faults of that host. First each target that has a device with
+/// the flag `scan` is scanned once, which says in which state such a device starts. Then the script is played by its step lines,
+/// in their order, each on the host that it names. One that ends with `end drain` is then run on in rounds, until each host is
+/// drained or the rounds that it may take are made. What is written is, for each host in ascending numbers, a line
 /// `host H`, a line `TICK TEXT` for each entry of its journal and a line `result ..` for each of its commands; then a line
 /// `skipped LINE WHY` for each step line that wasn't enabled, and the line `end`.
 ///
