@@ -1,40 +1,62 @@
+ghost use Rattle.std.specs.Prelude.{◌≤◌};
+
 use crate::{Sums, made, made_scripts_are_playable, sums_of, write_summary};
-use mid_base::{Answer, CmdId, DID_OK, Entry, Fault, GOOD, SenseBytes};
+use mid_base::{Answer, CmdId, CmdSpec, DID_OK, Entry, Fault, GOOD, HostSpec, SenseBytes};
 use mid_io::MemSink;
+use std::alloc::Global;
 use std::test::Fail;
+
+// The host of a script of so many commands.
+fn host(alloc: Global, count: u32) -> Result<HostSpec, Fail>
+    requires { count ≤ 65536 }
+{
+    match made(alloc, count)?.hosts.into_vec().into_iter().next() {
+        Some(host) => Ok(host),
+        None => Err("a host".into()),
+    }
+}
+
+fn last_command(alloc: Global, count: u32) -> Result<CmdSpec, Fail>
+    requires { count ≤ 65536 }
+{
+    match host(alloc, count)?.cmds.as_slice().last() {
+        Some(command) => Ok(*command),
+        None => Err("a command".into()),
+    }
+}
 
 #[test]
 fn so_many_commands_are_made(rt: HostRuntime) -> Result<(), Fail> {
-    let script = made(rt.alloc(), 20_000)?;
-    assert_eq!(rt; script.hosts.as_slice()[0].cmds.len(), 20_000);
+    made_scripts_are_playable();
+    assert_eq!(rt; host(rt.alloc(), 20_000)?.cmds.len(), 20_000);
     Ok(())
 }
 
 #[test]
 fn units_take_commands_in_turn(rt: HostRuntime) -> Result<(), Fail> {
-    made_scripts_are_playable();
-    let script = made(rt.alloc(), 7)?;
-    let last = script.hosts.as_slice()[0].cmds.as_slice()[6];
-    assert_eq!(rt;
-        (last.id, last.lane.0, last.dev.target, last.dev.lun),
-        (CmdId(7), 3, 1, 1)
-    );
+    let command = last_command(rt.alloc(), 7)?;
+    assert!(rt; command.id == CmdId(7) && command.lane.0 == 3);
+    assert!(rt; command.dev.target == 1 && command.dev.lun == 1);
     Ok(())
 }
 
 #[test]
 fn a_command_reads_eight_blocks(rt: HostRuntime) -> Result<(), Fail> {
-    let script = made(rt.alloc(), 33)?;
-    let last = script.hosts.as_slice()[0].cmds.as_slice()[32];
-    assert_eq!(rt; last.cdb.as_slice(), &[0x28, 0, 0, 0, 1, 8, 0, 0, 8, 0][..]);
+    let command = last_command(rt.alloc(), 33)?;
+    let read = [0x28, 0, 0, 0, 1, 8, 0, 0, 8, 0];
+    assert_eq!(rt; command.cdb.as_slice(), read.as_slice());
     Ok(())
 }
 
 #[test]
 fn each_unit_has_two_planned_faults(rt: HostRuntime) -> Result<(), Fail> {
-    let script = made(rt.alloc(), 1)?;
-    let plan = script.hosts.as_slice()[0].plan.as_slice();
-    assert!(rt; plan.len() == 8 && plan[7].fault == Fault::Never && plan[7].dev.lun == 1);
+    let host = host(rt.alloc(), 1)?;
+    let plan = host.plan.as_slice();
+    assert_eq!(rt; plan.len(), 8);
+    match plan.last() {
+        Some(last) => assert!(rt; last.fault == Fault::Never && last.dev.lun == 1),
+        None => return Err("a planned fault".into()),
+    }
     Ok(())
 }
 
