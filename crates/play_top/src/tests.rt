@@ -118,8 +118,16 @@ fn asked(alloc: Global, words: &[&str]) -> Result<(Status, Vec<u8>), Fail> {
 const ASKED: [(&[&str], u8, &str); 4] = [
     (&["--verbose"], 2, "usage\n"),
     (&["--make", "0"], 2, "usage\n"),
-    (&["--make", "4"], 0, "commands 4 good 4 retries 0 ticks 1\nend\n"),
-    (&["--make=20", "--"], 0, "commands 20 good 20 retries 4 ticks 3\nend\n"),
+    (
+        &["--make", "4"],
+        0,
+        "commands 4 good 4 retries 0 ticks 1\nend\n",
+    ),
+    (
+        &["--make=20", "--"],
+        0,
+        "commands 20 good 20 retries 4 ticks 3\nend\n",
+    ),
 ];
 
 #[test]
@@ -127,7 +135,11 @@ fn words_say_what_is_played(rt: HostRuntime) -> Result<(), Fail> {
     for (words, wanted, text) in ASKED {
         let (status, written) = asked(rt.alloc(), words)?;
         assert_eq!(rt; status, Status(wanted), "the status of {text}");
-        assert_eq!(rt; written.as_slice(), text.as_bytes(), "the text that is written");
+        assert_eq!(rt;
+            written.as_slice(),
+            text.as_bytes(),
+            "the text that is written"
+        );
     }
     Ok(())
 }
