@@ -1,7 +1,9 @@
-ghost use Rattle.std.specs.Prelude.{◌≡◌, ℕ, ◌≤◌, ◌⊎◌, [], true, false, None, Some, map, string_bytes};
+ghost use Rattle.std.specs.Prelude.{◌≡◌, ℕ, ◌≤◌, ◌⊎◌, [], true, false, None, Some, IfOk, map, string_bytes};
 ghost use Rattle.mid_io.specs.Causes.{Rose};
 ghost use Rattle.std.specs.Io.KnownBytes.{Appends};
 ghost use Rattle.mid_io.specs.Whole.{IsCutShort, TakesAtMost};
+ghost use Rattle.made_script.specs.Made.{made as made_of};
+ghost use Rattle.play_sched.specs.Played.{Ran};
 ghost use Rattle.play_words.specs.Words.{mode_of};
 ghost use Rattle.play_words.specs.declared.mode.Mode.TheVariants.{Make};
 ghost use Rattle.play_top.specs.Reading.{most_bytes};
@@ -12,8 +14,9 @@ use crate::reading::{Unread, read_script};
 use crate::status::Status;
 use crate::writing::{write_bad, write_made, write_played};
 use made_script::{made, made_scripts_are_playable};
+use mid_base::NoMemory;
 use mid_io::{Sink, Source, write_all};
-use play_sched::play_script;
+use play_sched::{Played, play_script};
 use play_words::{Mode, listed};
 use report_text::WriteEnd;
 use std::alloc::Global;
@@ -111,16 +114,26 @@ fn play_made<K: Sink>(alloc: Global, count: u32, out: &mut K) -> Status
     ensures memory { result.0 ≡ 7 → IsMadeCut count (K.written out.old) (K.written out.new) }
     ensures statuses { (result.0 ≡ 0) ⊎ (result.0 ≡ 5) ⊎ (result.0 ≡ 7) }
 {
+    match play_count(alloc, count) {
+        Ok(played) => match write_made(alloc, count, &played, out) {
+            Ok(()) => Status(0),
+            Err(WriteEnd::Fault) => Status(5),
+            Err(WriteEnd::NoMemory) => Status(7),
+        },
+        Err(_) => Status(7),
+    }
+}
+
+fn play_count(alloc: Global, count: u32) -> Result<Played, NoMemory>
+    requires { count ≤ 65536 }
+    ensures { IfOk result (λ played. Ran (made_of count) played.hosts.items played.skips.items played.short) }
+{
     made_scripts_are_playable();
-    let Ok(script) = made(alloc, count) else {
-        return Status(7);
-    };
-    let Ok(played) = play_script(alloc, script) else {
-        return Status(7);
-    };
-    match write_made(alloc, count, &played, out) {
-        Ok(()) => Status(0),
-        Err(WriteEnd::Fault) => Status(5),
-        Err(WriteEnd::NoMemory) => Status(7),
+    match made(alloc, count) {
+        Ok(script) => match play_script(alloc, script) {
+            Ok(played) => Ok(played),
+            Err(_) => Err(NoMemory),
+        },
+        Err(_) => Err(NoMemory),
     }
 }
