@@ -1,3 +1,4 @@
 pub mod Whole
+pub mod Made
 pub mod Turns
 pub mod Texts

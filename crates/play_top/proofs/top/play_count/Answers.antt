@@ -1,4 +1,4 @@
-use Rattle.std.proofs.Common.{◌≡◌, sym, subst}
+use Rattle.std.proofs.Common.{sym, subst}
 use Rattle.script_text.specs.Playable.{IsPlayable}
 use Rattle.play_top.proofs.top.play_count.Goals as goal
 
